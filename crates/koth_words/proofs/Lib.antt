@@ -1,6 +1,5 @@
 mod Addresses
 mod Back
-mod Build
 mod Entered
 mod Flags
 mod Named

@@ -1,11 +1,11 @@
 -- What a parse of the program's words met.
-use Rattle.std.proofs.Common.{◌≡◌, ◌≢◌, inl, inr, subst, ◌∙◌, ◌||◌, Bool, true, false, List, Option, None, Some, Box, is_some, IfSome, if◌then◌else◌, sym, ap, refl, codes, [], option_map}
+use Rattle.std.proofs.Common.{◌≡◌, ◌≢◌, ◌⊎◌, inl, inr, subst, ◌∙◌, ◌||◌, Bool, true, false, List, Option, None, Some, Box, is_some, IfSome, if◌then◌else◌, sym, ap, refl, codes, [], ◌∷◌, option_map}
 use Rattle.{std.specs.{Box.box_value, List.find}, clap.specs.Faults.{entered_fault, fault_of, is_simple_and_free, other_fault}}
 use Rattle.clap.specs.{Simple.{App, HasMatchesOf, argument_words, built, entered, is_simple, label_of, names_of, rows_at, subcommand_of, subcommand_rows, subcommand_rows_of}, Takes.takes}
 use Rattle.clap.specs.{Kinds.{HasKind, IsAmong, Kinds}, Matches.subcommand_name_of, Values.kind_of, Walk.{Held, Row, Text, answers_to, idle, nothing_held, option, positional, stop_after, walk_from}}
 use Rattle.clap.specs.{declared.error.Error.Error, declared.error.kind.ErrorKind.ErrorKind, declared.parser.matches.ArgMatches.ArgMatches}
 use Rattle.{clap.specs.{declared.parser.matches.ArgMatches.TheViews.{out-ArgMatches, out-SubCommand}, declared.parser.matches.SubCommand.SubCommand}, clap.proofs.OnLiterals.clap_on_literals}
-use Rattle.{koth_words.specs.Words.{given_by, given_in, koth_app, AreTaken, AreWrong, HaveFault, IsCommandName, NamesCommand}, koth_words.proofs.Entered.{OnNames, level_has, level_walks, walk_stops}}
+use Rattle.{koth_words.specs.{Words.{given_by, given_in, koth_app, AreTaken, AreWrong, AskForHelp, HaveFault, IsCommandName, NamesCommand}, declared.requests.View.View}, koth_words.proofs.Entered.{OnNames, level_has, level_walks, walk_stops}}
 
 koth_is_simple : (is_simple koth_app ≡ true) × (is_simple_and_free koth_app ≡ true)
 unfolding clap_on_literals koth_app
@@ -117,26 +117,48 @@ pub gives_command : (app : App) (m : ArgMatches) (words : List Text) → app ≡
 gives_command app m words is has none =
     subst NamesCommand (named app m words is has) (names_command words (on_faults app words (λ faults. faults ≡ []) is none))
 
+pub no_fault : (app : App) (words : List Text) → app ≡ koth_app → (is_simple_and_free app ≡ true → fault_of app words ≡ []) → fault_of koth_app words ≡ []
+no_fault app words is none = on_faults app words (λ faults. faults ≡ []) is none
+
 pub not_wrong : (app : App) (words : List Text) → app ≡ koth_app → (is_simple_and_free app ≡ true → fault_of app words ≡ []) → HaveFault words → ⊥
-not_wrong app words is none wrong = wrong.0 (on_faults app words (λ faults. faults ≡ []) is none)
+not_wrong app words is none wrong = wrong.0 (no_fault app words is none)
 
 -- if the words are taken, an error is a lack of memory
-pub memory_kind : (app : App) (words : List Text) (e : Error) → app ≡ koth_app → (takes app words ≡ true → kind_of e ≡ ErrorKind.OutOfMemory)
-    → AreTaken words → kind_of e ≡ ErrorKind.OutOfMemory
-memory_kind app words e is passes taken = passes (ap (λ a. takes a words) is ∙ taken.0)
+pub memory_kind : (view : View) (app : App) (words : List Text) (e : Error) → app ≡ koth_app → (takes app words ≡ true → kind_of e ≡ ErrorKind.OutOfMemory)
+    → AreTaken view words → kind_of e ≡ ErrorKind.OutOfMemory
+memory_kind view app words e is passes taken = passes (ap (λ a. takes a words) is ∙ taken.0)
 
 -- an error at wrong words is no request for help
-pub wrong_kind : (app : App) (words : List Text) (e : Error) → app ≡ koth_app → (is_simple_and_free app ≡ true → HasKind (fault_of app words) e) → AreWrong words
+pub wrong_kind : (view : View) (app : App) (words : List Text) (e : Error) → app ≡ koth_app → (is_simple_and_free app ≡ true → HasKind (fault_of app words) e) → AreWrong view words
     → (kind_of e ≢ ErrorKind.DisplayHelp) × (kind_of e ≢ ErrorKind.DisplayVersion)
-wrong_kind app words e is has wrong = by_kind (on_faults app words (λ faults. HasKind faults e) is has) wrong
+wrong_kind view app words e is has wrong = by_kind (on_faults app words (λ faults. HasKind faults e) is has) wrong
   where
     IsKind : ErrorKind → Type 0
     IsKind k = IsAmong k (fault_of koth_app words)
 
-    by_kind : HasKind (fault_of koth_app words) e → AreWrong words → (kind_of e ≢ ErrorKind.DisplayHelp) × (kind_of e ≢ ErrorKind.DisplayVersion)
+    by_kind : HasKind (fault_of koth_app words) e → AreWrong view words → (kind_of e ≢ ErrorKind.DisplayHelp) × (kind_of e ≢ ErrorKind.DisplayVersion)
     by_kind (inl memory) wrong = (λ help. absurd (cc), λ version. absurd (cc))
     by_kind (inr among) (inl fault) = (λ help. fault.1 (subst IsKind help among), λ version. fault.2 (subst IsKind version among))
     by_kind (inr among) (inr unclear) = absurd (subst (λ faults. IsAmong (kind_of e) faults) unclear.0 among)
+
+-- words that ask for help or the version have a fault
+pub helps : (words : List Text) → AskForHelp words → fault_of koth_app words ≡ [] → ⊥
+helps words (inl help) none = absurd (cc)
+helps words (inr version) none = absurd (cc)
+
+-- an error at them is that, or a lack of memory
+pub help_kind : (app : App) (words : List Text) (e : Error) → app ≡ koth_app → (is_simple_and_free app ≡ true → HasKind (fault_of app words) e) → AskForHelp words
+    → (kind_of e ≡ ErrorKind.OutOfMemory) ⊎ ((kind_of e ≡ ErrorKind.DisplayHelp) ⊎ (kind_of e ≡ ErrorKind.DisplayVersion))
+help_kind app words e is has asks = by_kind (on_faults app words (λ faults. HasKind faults e) is has) asks
+  where
+    one : (k : ErrorKind) → fault_of koth_app words ≡ k ∷ [] → IsAmong (kind_of e) (fault_of koth_app words) → kind_of e ≡ k
+    one k is among = elim (subst (IsAmong (kind_of e)) is among) [ inl same ↦ same | inr other ↦ absurd other ]
+
+    by_kind : HasKind (fault_of koth_app words) e → AskForHelp words
+        → (kind_of e ≡ ErrorKind.OutOfMemory) ⊎ ((kind_of e ≡ ErrorKind.DisplayHelp) ⊎ (kind_of e ≡ ErrorKind.DisplayVersion))
+    by_kind (inl memory) asks = inl memory
+    by_kind (inr among) (inl help) = inr (inl (one ErrorKind.DisplayHelp help among))
+    by_kind (inr among) (inr version) = inr (inr (one ErrorKind.DisplayVersion version among))
 
 -- what holds of what the words give a command also holds of what the parse gives
 pub given_found : (app : App) (m : ArgMatches) (words : List Text) (P : List Row → Type 0) → app ≡ koth_app → HasMatchesOf app words m

@@ -1,31 +1,31 @@
 -- Rows of the definitions, computed.
-use Rattle.{std.proofs.Common.{◌≡◌, true, false, true≢false, List, [], ◌∷◌, Some, None, Ok, codes, refl, sym, inr}, clap.specs.Words.{Row, all_of, fault_of, first_of, one_of, subcommand_of, takes}}
+use Rattle.{std.proofs.Common.{◌≡◌, true, false, true≢false, List, [], ◌∷◌, Some, None, Ok, codes, refl, sym, inl, inr}, clap.specs.Words.{Row, all_of, fault_of, first_of, one_of, subcommand_of, takes}}
 use Rattle.{clap.proofs.OnLiterals.clap_on_literals, clap.specs.declared.error.kind.ErrorKind.ErrorKind, war_types.specs.Settings.settings_of}
 use Rattle.koth_words.specs.{Options.{default_settings, number_given, number_or}, Settings.{chosen_in, given_as, over, preset_settings}}
-use Rattle.koth_words.specs.Words.{AreTaken, AreWrong, AsksFor, IsAddress}
-use Rattle.koth_words.specs.Words.{create_named, draw_seed_named, form_named, given_by, given_in, koth_app, matches_named, overwrite_named, reads_input, replays_named, settings_named}
-use Rattle.{koth_words.specs.{Words.view_named, declared.requests.{Form.Form, View.View}}, koth_words.proofs.Addresses.{any_address, every_address, every_address_is_one, every_long_address, every_long_address_is_one, four, not_here, not_to_a_group, not_to_all, not_with_port, this_machine}}
+use Rattle.koth_words.specs.Words.{AreTaken, AreWrong, AskForHelp, AsksFor, IsAddress}
+use Rattle.koth_words.specs.Words.{create_named, draw_seed_named, form_named, given_by, given_in, koth_app, matches_named, overwrite_named, reads_input, replays_named, round_in, settings_named}
+use Rattle.{koth_words.specs.{Words.view_named, Sources.{Place, place_named, places_named}, declared.requests.{Form.Form, Round.Round, View.View}}, koth_words.proofs.Addresses.{any_address, every_address, every_address_is_one, every_long_address, every_long_address_is_one, four, not_here, not_to_a_group, not_to_all, not_with_port, this_machine}}
 
 -- the premise of `asm` is met by these words
-asm_asks : AsksFor (codes "asm") (codes "koth" ∷ codes "asm" ∷ [])
+asm_asks : AsksFor View.Plain (codes "asm") (codes "koth" ∷ codes "asm" ∷ [])
 unfolding clap_on_literals koth_app
-asm_asks = ((refl, (refl, refl, refl, tt, refl, refl, refl, refl)), refl)
+asm_asks = ((refl, (refl, refl, refl, refl, tt)), refl)
 
-fight_asks : AsksFor (codes "fight") (codes "koth" ∷ codes "fight" ∷ codes "a.red" ∷ codes "b.red" ∷ codes "--rounds=3" ∷ [])
+fight_asks : AsksFor View.Plain (codes "fight") (codes "koth" ∷ codes "fight" ∷ codes "a.red" ∷ codes "b.red" ∷ codes "--rounds=3" ∷ [])
 unfolding clap_on_literals koth_app
-fight_asks = ((refl, (refl, refl, refl, tt, refl, refl, refl, refl)), refl)
+fight_asks = ((refl, (refl, refl, refl, refl, tt)), refl)
 
-hills_ask : AsksFor (codes "create") (codes "koth" ∷ codes "create" ∷ codes "a.hill" ∷ codes "--seed=7" ∷ [])
-    × AsksFor (codes "submit") (codes "koth" ∷ codes "submit" ∷ codes "a.hill" ∷ codes "a.red" ∷ [])
-    × AsksFor (codes "show") (codes "koth" ∷ codes "show" ∷ codes "a.hill" ∷ [])
-    × AsksFor (codes "serve") (codes "koth" ∷ codes "serve" ∷ codes "a.hill" ∷ codes "--port=0" ∷ codes "--connections" ∷ codes "4294967295" ∷ [])
-    × AsksFor (codes "show") (codes "koth" ∷ codes "show" ∷ codes "h.hill" ∷ codes "--matches" ∷ [])
-    × AsksFor (codes "audit") (codes "koth" ∷ codes "audit" ∷ codes "h.hill" ∷ [])
-    × AsksFor (codes "migrate") (codes "koth" ∷ codes "migrate" ∷ codes "a.hill" ∷ codes "b.hill" ∷ [])
-    × AsksFor (codes "page") (codes "koth" ∷ codes "page" ∷ codes "a.hill" ∷ [])
-    × AsksFor (codes "replay") (codes "koth" ∷ codes "replay" ∷ codes "a.red" ∷ codes "b.red" ∷ codes "--round=1000" ∷ codes "-r5" ∷ [])
+hills_ask : AsksFor View.Plain (codes "create") (codes "koth" ∷ codes "create" ∷ codes "a.hill" ∷ codes "--seed=7" ∷ [])
+    × AsksFor View.Plain (codes "submit") (codes "koth" ∷ codes "submit" ∷ codes "a.hill" ∷ codes "a.red" ∷ [])
+    × AsksFor View.Plain (codes "show") (codes "koth" ∷ codes "show" ∷ codes "a.hill" ∷ [])
+    × AsksFor View.Plain (codes "serve") (codes "koth" ∷ codes "serve" ∷ codes "a.hill" ∷ codes "--port=0" ∷ codes "--connections" ∷ codes "4294967295" ∷ [])
+    × AsksFor View.Plain (codes "show") (codes "koth" ∷ codes "show" ∷ codes "h.hill" ∷ codes "--matches" ∷ [])
+    × AsksFor View.Plain (codes "audit") (codes "koth" ∷ codes "audit" ∷ codes "h.hill" ∷ [])
+    × AsksFor View.Plain (codes "migrate") (codes "koth" ∷ codes "migrate" ∷ codes "a.hill" ∷ codes "b.hill" ∷ [])
+    × AsksFor View.Plain (codes "page") (codes "koth" ∷ codes "page" ∷ codes "a.hill" ∷ [])
+    × AsksFor View.Plain (codes "replay") (codes "koth" ∷ codes "replay" ∷ codes "a.red" ∷ codes "b.red" ∷ codes "--round=1000" ∷ codes "-r5" ∷ [])
 unfolding clap_on_literals koth_app
-hills_ask = (((refl, (refl, refl, refl, tt, refl, refl, refl, refl)), refl), ((refl, (refl, refl, refl, tt, refl, refl, refl, refl)), refl), ((refl, (refl, refl, refl, tt, refl, refl, refl, refl)), refl), ((refl, (refl, refl, refl, tt, refl, refl, refl, refl)), refl), ((refl, (refl, refl, refl, tt, refl, refl, refl, refl)), refl), ((refl, (refl, refl, refl, tt, refl, refl, refl, refl)), refl), ((refl, (refl, refl, refl, tt, refl, refl, refl, refl)), refl), ((refl, (refl, refl, refl, tt, refl, refl, refl, refl)), refl), ((refl, (refl, refl, refl, tt, refl, refl, refl, refl)), refl))
+hills_ask = (((refl, (refl, refl, refl, refl, tt)), refl), ((refl, (refl, refl, refl, refl, tt)), refl), ((refl, (refl, refl, refl, refl, tt)), refl), ((refl, (refl, refl, refl, refl, tt)), refl), ((refl, (refl, refl, refl, refl, tt)), refl), ((refl, (refl, refl, refl, refl, tt)), refl), ((refl, (refl, refl, refl, refl, tt)), refl), ((refl, (refl, refl, refl, refl, tt)), refl), ((refl, (refl, refl, refl, refl, tt)), refl))
 
 -- the flag is given if the words have it, after the file or before it, and else not
 matches_given : (matches_named (codes "koth" ∷ codes "show" ∷ codes "h.hill" ∷ codes "--matches" ∷ []) ≡ true)
@@ -109,46 +109,46 @@ presets_are_settings : (settings_of (preset_settings (codes "94nop")) ≡ Ok (re
 presets_are_settings = (refl, refl, refl)
 
 -- the settings of a hill as one gives them, and numbers that options give in their place
-likes : AsksFor (codes "fight") (codes "koth" ∷ codes "fight" ∷ codes "a" ∷ codes "b" ∷ codes "--like" ∷ codes "h.hill" ∷ codes "--core=900" ∷ [])
+likes : AsksFor View.Plain (codes "fight") (codes "koth" ∷ codes "fight" ∷ codes "a" ∷ codes "b" ∷ codes "--like" ∷ codes "h.hill" ∷ codes "--core=900" ∷ [])
     × (first_of (codes "like") (given_by (codes "koth" ∷ codes "fight" ∷ codes "a" ∷ codes "b" ∷ codes "--like" ∷ codes "h.hill" ∷ codes "--core=900" ∷ [])) ≡ Some (codes "h.hill"))
     × (over (given_as (record default_settings { core = 800; seed = 7; read_limit = 800; write_limit = 100 }))
     (chosen_in (given_by (codes "koth" ∷ codes "fight" ∷ codes "a" ∷ codes "b" ∷ codes "--like" ∷ codes "h.hill" ∷ codes "--core=900" ∷ [])))
     ≡ record default_settings { core = 900; seed = 7; write_limit = 100 })
     × (takes koth_app (codes "koth" ∷ codes "serve" ∷ codes "h.hill" ∷ codes "--port=0" ∷ codes "--create" ∷ codes "--like=b.hill" ∷ []) ≡ false)
 unfolding clap_on_literals koth_app
-likes = (((refl, (refl, refl, refl, tt, refl, refl, refl, refl)), refl), refl, refl, refl)
+likes = (((refl, (refl, refl, refl, refl, tt)), refl), refl, refl, refl)
 
 -- no other preset, no preset beside a hill, and none for a hill that is there
-no_presets : AreWrong (codes "koth" ∷ codes "asm" ∷ codes "--preset=big" ∷ [])
-    × AreWrong (codes "koth" ∷ codes "check" ∷ codes "a.red" ∷ codes "--preset=nano" ∷ codes "--like=h.hill" ∷ [])
-    × AreWrong (codes "koth" ∷ codes "serve" ∷ codes "a.hill" ∷ codes "--port=0" ∷ codes "--preset=94nop" ∷ [])
+no_presets : AreWrong View.Plain (codes "koth" ∷ codes "asm" ∷ codes "--preset=big" ∷ [])
+    × AreWrong View.Plain (codes "koth" ∷ codes "check" ∷ codes "a.red" ∷ codes "--preset=nano" ∷ codes "--like=h.hill" ∷ [])
+    × AreWrong View.Plain (codes "koth" ∷ codes "serve" ∷ codes "a.hill" ∷ codes "--port=0" ∷ codes "--preset=94nop" ∷ [])
 unfolding clap_on_literals koth_app
-no_presets = (inr (refl, λ clear. true≢false (sym clear.5)), inr (refl, λ clear. true≢false (sym clear.6)), inr (refl, λ clear. true≢false (sym clear.2)))
+no_presets = (inr (refl, λ clear. true≢false (sym clear.1)), inr (refl, λ clear. true≢false (sym clear.0)), inr (refl, λ clear. true≢false (sym clear.3)))
 
 -- the settings of a hill, with its seed or without, and not beside its matches
-settings_shown : AsksFor (codes "show") (codes "koth" ∷ codes "show" ∷ codes "h.hill" ∷ codes "--settings" ∷ [])
-    × AsksFor (codes "show") (codes "koth" ∷ codes "show" ∷ codes "h.hill" ∷ codes "--with-seed" ∷ codes "--settings" ∷ [])
-    × AreWrong (codes "koth" ∷ codes "show" ∷ codes "h.hill" ∷ codes "--settings" ∷ codes "--matches" ∷ [])
-    × AreWrong (codes "koth" ∷ codes "show" ∷ codes "h.hill" ∷ codes "--with-seed" ∷ [])
+settings_shown : AsksFor View.Plain (codes "show") (codes "koth" ∷ codes "show" ∷ codes "h.hill" ∷ codes "--settings" ∷ [])
+    × AsksFor View.Plain (codes "show") (codes "koth" ∷ codes "show" ∷ codes "h.hill" ∷ codes "--with-seed" ∷ codes "--settings" ∷ [])
+    × AreWrong View.Plain (codes "koth" ∷ codes "show" ∷ codes "h.hill" ∷ codes "--settings" ∷ codes "--matches" ∷ [])
+    × AreWrong View.Plain (codes "koth" ∷ codes "show" ∷ codes "h.hill" ∷ codes "--with-seed" ∷ [])
 unfolding clap_on_literals koth_app
 settings_shown = (
-  ((refl, (refl, refl, refl, tt, refl, refl, refl, refl)), refl),
-  ((refl, (refl, refl, refl, tt, refl, refl, refl, refl)), refl),
-  inr (refl, λ clear. true≢false (sym clear.7)),
-  inr (refl, λ clear. true≢false (sym clear.7)),
+  ((refl, (refl, refl, refl, refl, tt)), refl),
+  ((refl, (refl, refl, refl, refl, tt)), refl),
+  inr (refl, λ clear. true≢false (sym clear.0)),
+  inr (refl, λ clear. true≢false (sym clear.3)),
 )
 
 -- ---- sources, layouts, formats, and words that `clap` takes and the program refuses
 
-checks_ask : AsksFor (codes "check") (codes "koth" ∷ codes "check" ∷ codes "a.red" ∷ codes "-s64" ∷ codes "b.red" ∷ codes "--format" ∷ codes "json" ∷ [])
-    × AsksFor (codes "asm") (codes "koth" ∷ codes "asm" ∷ codes "a.red" ∷ [])
-    × AsksFor (codes "create") (codes "koth" ∷ codes "create" ∷ codes "a.hill" ∷ codes "--overwrite" ∷ [])
-    × AsksFor (codes "serve") (codes "koth" ∷ codes "serve" ∷ codes "a.hill" ∷ codes "--port=0" ∷ codes "--quiet" ∷ [])
+checks_ask : AsksFor View.Plain (codes "check") (codes "koth" ∷ codes "check" ∷ codes "a.red" ∷ codes "-s64" ∷ codes "b.red" ∷ codes "--format" ∷ codes "json" ∷ [])
+    × AsksFor View.Plain (codes "asm") (codes "koth" ∷ codes "asm" ∷ codes "a.red" ∷ [])
+    × AsksFor View.Plain (codes "create") (codes "koth" ∷ codes "create" ∷ codes "a.hill" ∷ codes "--overwrite" ∷ [])
+    × AsksFor View.Plain (codes "serve") (codes "koth" ∷ codes "serve" ∷ codes "a.hill" ∷ codes "--port=0" ∷ codes "--quiet" ∷ [])
 unfolding clap_on_literals koth_app
-checks_ask = (((refl, (refl, refl, refl, tt, refl, refl, refl, refl)), refl), ((refl, (refl, refl, refl, tt, refl, refl, refl, refl)), refl), ((refl, (refl, refl, refl, tt, refl, refl, refl, refl)), refl), ((refl, (refl, refl, refl, tt, refl, refl, refl, refl)), refl))
+checks_ask = (((refl, (refl, refl, refl, refl, tt)), refl), ((refl, (refl, refl, refl, refl, tt)), refl), ((refl, (refl, refl, refl, refl, tt)), refl), ((refl, (refl, refl, refl, refl, tt)), refl))
 
 -- the files in their order, and the form and the setting among them
-checked_files : (all_of (codes "FILE") (given_by (codes "koth" ∷ codes "check" ∷ codes "a.red" ∷ codes "-s64" ∷ codes "b.red" ∷ codes "--format=json" ∷ [])) ≡ Some (codes "a.red" ∷ codes "b.red" ∷ []))
+checked_files : (all_of (codes "SOURCE") (given_by (codes "koth" ∷ codes "check" ∷ codes "a.red" ∷ codes "-s64" ∷ codes "b.red" ∷ codes "--format=json" ∷ [])) ≡ Some (codes "a.red" ∷ codes "b.red" ∷ []))
     × (form_named (codes "koth" ∷ codes "check" ∷ codes "a.red" ∷ codes "--format=json" ∷ []) ≡ Form.Json)
     × (form_named (codes "koth" ∷ codes "check" ∷ codes "a.red" ∷ []) ≡ Form.Text)
     × (settings_named (codes "koth" ∷ codes "check" ∷ codes "a.red" ∷ codes "-s64" ∷ codes "b.red" ∷ []) ≡ record default_settings { core = 64 })
@@ -168,9 +168,10 @@ inputs = (refl, refl, refl)
 
 layouts : (view_named (codes "koth" ∷ codes "show" ∷ codes "h.hill" ∷ codes "--plain" ∷ []) ≡ Some View.Plain)
     × (view_named (codes "koth" ∷ codes "fight" ∷ codes "a" ∷ codes "--table" ∷ codes "b" ∷ []) ≡ Some View.Table)
+    × (view_named (codes "koth" ∷ codes "audit" ∷ codes "h.hill" ∷ codes "--format=json" ∷ []) ≡ Some View.Json)
     × (view_named (codes "koth" ∷ codes "submit" ∷ codes "h.hill" ∷ codes "a.red" ∷ []) ≡ None)
 unfolding clap_on_literals koth_app
-layouts = (refl, refl, refl)
+layouts = (refl, refl, refl, refl)
 
 flags : (overwrite_named (codes "koth" ∷ codes "create" ∷ codes "h.hill" ∷ codes "--overwrite" ∷ []) ≡ true)
     × (overwrite_named (codes "koth" ∷ codes "create" ∷ codes "h.hill" ∷ []) ≡ false)
@@ -181,17 +182,18 @@ unfolding clap_on_literals koth_app
 flags = (refl, refl, refl, refl, refl)
 
 -- two layouts, an unknown format and no file to check are not taken
-unclear : ¬ AreTaken (codes "koth" ∷ codes "show" ∷ codes "h.hill" ∷ codes "--plain" ∷ codes "--table" ∷ [])
-    × ¬ AreTaken (codes "koth" ∷ codes "check" ∷ codes "a.red" ∷ codes "--format=xml" ∷ [])
-    × ¬ AreTaken (codes "koth" ∷ codes "check" ∷ [])
+unclear : ¬ AreTaken View.Plain (codes "koth" ∷ codes "show" ∷ codes "h.hill" ∷ codes "--plain" ∷ codes "--table" ∷ [])
+    × ¬ AreTaken View.Plain (codes "koth" ∷ codes "check" ∷ codes "a.red" ∷ codes "--format=xml" ∷ [])
+    × ¬ AreTaken View.Plain (codes "koth" ∷ codes "check" ∷ [])
 unfolding clap_on_literals koth_app
 unclear = (λ taken. true≢false (sym taken.1.0), λ taken. true≢false (sym taken.1.1), λ taken. true≢false (sym taken.0))
 
 -- and the first two are wrong
-two_layouts_wrong : AreWrong (codes "koth" ∷ codes "show" ∷ codes "h.hill" ∷ codes "--plain" ∷ codes "--table" ∷ [])
-    × AreWrong (codes "koth" ∷ codes "check" ∷ codes "a.red" ∷ codes "--format=xml" ∷ [])
+two_layouts_wrong : AreWrong View.Plain (codes "koth" ∷ codes "show" ∷ codes "h.hill" ∷ codes "--plain" ∷ codes "--table" ∷ [])
+    × AreWrong View.Plain (codes "koth" ∷ codes "fight" ∷ codes "a" ∷ codes "b" ∷ codes "--table" ∷ codes "--format=json" ∷ [])
+    × AreWrong View.Plain (codes "koth" ∷ codes "check" ∷ codes "a.red" ∷ codes "--format=xml" ∷ [])
 unfolding clap_on_literals koth_app
-two_layouts_wrong = (inr (refl, λ clear. true≢false (sym clear.0)), inr (refl, λ clear. true≢false (sym clear.1)))
+two_layouts_wrong = (inr (refl, λ clear. true≢false (sym clear.0)), inr (refl, λ clear. true≢false (sym clear.0)), inr (refl, λ clear. true≢false (sym clear.1)))
 
 -- the version is asked for by a word or a letter, and of the program alone
 versions : (fault_of koth_app (codes "koth" ∷ codes "--version" ∷ []) ≡ ErrorKind.DisplayVersion ∷ [])
@@ -199,6 +201,12 @@ versions : (fault_of koth_app (codes "koth" ∷ codes "--version" ∷ []) ≡ Er
     × (fault_of koth_app (codes "koth" ∷ codes "asm" ∷ codes "--version" ∷ []) ≡ ErrorKind.UnknownArgument ∷ [])
 unfolding clap_on_literals koth_app
 versions = (refl, refl, refl)
+
+-- help and the version are asked for
+helps : AskForHelp (codes "koth" ∷ codes "--help" ∷ []) × AskForHelp (codes "koth" ∷ codes "fight" ∷ codes "-h" ∷ [])
+    × AskForHelp (codes "koth" ∷ codes "--version" ∷ [])
+unfolding clap_on_literals koth_app
+helps = (inl refl, inl refl, inr refl)
 
 -- ---- a service of many, and a round that is shown
 
@@ -211,12 +219,12 @@ plain_given = given_by (codes "koth" ∷ codes "serve" ∷ codes "a.hill" ∷ co
 
 services : (number_or 64 (one_of (codes "peers") many_given) ≡ 1024)
     × (number_given 4294967296 (one_of (codes "peers-per-address") many_given) ≡ Some 4)
-    × (number_or 1000000 (one_of (codes "steps") many_given) ≡ 5)
+    × (number_or 500000 (one_of (codes "steps") many_given) ≡ 5)
     × (first_of (codes "listen") many_given ≡ Some (codes "0.0.0.0"))
     × (number_given 4294967296 (one_of (codes "http") many_given) ≡ Some 8080)
     × (number_or 64 (one_of (codes "peers") plain_given) ≡ 64)
     × (number_given 4294967296 (one_of (codes "peers-per-address") plain_given) ≡ None)
-    × (number_or 1000000 (one_of (codes "steps") plain_given) ≡ 1000000)
+    × (number_or 500000 (one_of (codes "steps") plain_given) ≡ 500000)
     × (first_of (codes "listen") plain_given ≡ None)
     × (number_given 4294967296 (one_of (codes "http") plain_given) ≡ None)
     × (replays_named (codes "koth" ∷ codes "serve" ∷ codes "a.hill" ∷ codes "--port=0" ∷ codes "--http=8080" ∷ codes "--replays" ∷ []) ≡ true)
@@ -225,30 +233,75 @@ unfolding clap_on_literals koth_app
 services = (refl, refl, refl, refl, refl, refl, refl, refl, refl, refl, refl, refl)
 
 -- an address of either kind is given, and 127.0.0.1 is the one if the option is left out
-addresses_ask : AsksFor (codes "serve") (codes "koth" ∷ codes "serve" ∷ codes "a.hill" ∷ codes "--port=0" ∷ codes "--listen=0.0.0.0" ∷ [])
-    × AsksFor (codes "serve") (codes "koth" ∷ codes "serve" ∷ codes "a.hill" ∷ codes "--port=0" ∷ codes "--listen" ∷ codes "::" ∷ [])
+addresses_ask : AsksFor View.Plain (codes "serve") (codes "koth" ∷ codes "serve" ∷ codes "a.hill" ∷ codes "--port=0" ∷ codes "--listen=0.0.0.0" ∷ [])
+    × AsksFor View.Plain (codes "serve") (codes "koth" ∷ codes "serve" ∷ codes "a.hill" ∷ codes "--port=0" ∷ codes "--listen" ∷ codes "::" ∷ [])
     × IsAddress None (four (127 ∷ 0 ∷ 0 ∷ 1 ∷ []))
 unfolding clap_on_literals koth_app
-addresses_ask = (((refl, (refl, refl, refl, (four (0 ∷ 0 ∷ 0 ∷ 0 ∷ []), every_address, every_address_is_one), refl, refl, refl, refl)), refl), ((refl, (refl, refl, refl, (any_address, every_long_address, every_long_address_is_one), refl, refl, refl, refl)), refl), this_machine)
+addresses_ask = (((refl, (refl, refl, refl, refl, (four (0 ∷ 0 ∷ 0 ∷ 0 ∷ []), every_address, every_address_is_one))), refl), ((refl, (refl, refl, refl, refl, (any_address, every_long_address, every_long_address_is_one))), refl), this_machine)
 
 -- no name of a machine, and no address with a port
-names_wrong : AreWrong (codes "koth" ∷ codes "serve" ∷ codes "a.hill" ∷ codes "--port=0" ∷ codes "--listen=here" ∷ [])
-    × AreWrong (codes "koth" ∷ codes "serve" ∷ codes "a.hill" ∷ codes "--port=0" ∷ codes "--listen=0.0.0.0:80" ∷ [])
+names_wrong : AreWrong View.Plain (codes "koth" ∷ codes "serve" ∷ codes "a.hill" ∷ codes "--port=0" ∷ codes "--listen=here" ∷ [])
+    × AreWrong View.Plain (codes "koth" ∷ codes "serve" ∷ codes "a.hill" ∷ codes "--port=0" ∷ codes "--listen=0.0.0.0:80" ∷ [])
 unfolding clap_on_literals koth_app
-names_wrong = (inr (refl, λ clear. not_here _ clear.3.1), inr (refl, λ clear. not_with_port _ clear.3.1))
+names_wrong = (inr (refl, λ clear. not_here _ clear.4.1), inr (refl, λ clear. not_with_port _ clear.4.1))
 
 -- no address of all machines in a network, and none of a group of them
-groups_wrong : AreWrong (codes "koth" ∷ codes "serve" ∷ codes "a.hill" ∷ codes "--port=0" ∷ codes "--listen=255.255.255.255" ∷ [])
-    × AreWrong (codes "koth" ∷ codes "serve" ∷ codes "a.hill" ∷ codes "--port=0" ∷ codes "--listen=224.0.0.1" ∷ [])
+groups_wrong : AreWrong View.Plain (codes "koth" ∷ codes "serve" ∷ codes "a.hill" ∷ codes "--port=0" ∷ codes "--listen=255.255.255.255" ∷ [])
+    × AreWrong View.Plain (codes "koth" ∷ codes "serve" ∷ codes "a.hill" ∷ codes "--port=0" ∷ codes "--listen=224.0.0.1" ∷ [])
 unfolding clap_on_literals koth_app
-groups_wrong = (inr (refl, λ clear. not_to_all clear.3), inr (refl, λ clear. not_to_a_group clear.3))
+groups_wrong = (inr (refl, λ clear. not_to_all clear.4), inr (refl, λ clear. not_to_a_group clear.4))
 
 -- the round that is shown, and the rounds of its match
-rounds : (number_or 1 (one_of (codes "round") (given_by (codes "koth" ∷ codes "replay" ∷ codes "a" ∷ codes "b" ∷ codes "--round" ∷ codes "7" ∷ []))) ≡ 7)
-    × (number_or 1 (one_of (codes "round") (given_by (codes "koth" ∷ codes "replay" ∷ codes "a" ∷ codes "b" ∷ codes "--rounds=7" ∷ []))) ≡ 1)
+rounds : (round_in (given_by (codes "koth" ∷ codes "replay" ∷ codes "a" ∷ codes "b" ∷ codes "--round" ∷ codes "7" ∷ [])) ≡ Round.Number 7)
+    × (round_in (given_by (codes "koth" ∷ codes "replay" ∷ codes "a" ∷ codes "b" ∷ codes "--rounds=7" ∷ [])) ≡ Round.Number 1)
+    × (round_in (given_by (codes "koth" ∷ codes "replay" ∷ codes "a" ∷ codes "b" ∷ codes "--lost" ∷ [])) ≡ Round.Lost)
+    × (round_in (given_by (codes "koth" ∷ codes "replay" ∷ codes "--won" ∷ codes "a" ∷ codes "b" ∷ [])) ≡ Round.Won)
+    × (round_in (given_by (codes "koth" ∷ codes "replay" ∷ codes "a" ∷ codes "b" ∷ codes "--tied" ∷ [])) ≡ Round.Tied)
     × (settings_named (codes "koth" ∷ codes "replay" ∷ codes "a" ∷ codes "b" ∷ codes "--round=2" ∷ codes "--rounds=7" ∷ []) ≡ record default_settings { rounds = 7 })
 unfolding clap_on_literals koth_app
-rounds = (refl, refl, refl)
+rounds = (refl, refl, refl, refl, refl, refl)
+
+-- one round of those that are asked for
+no_rounds : AreWrong View.Plain (codes "koth" ∷ codes "replay" ∷ codes "a" ∷ codes "b" ∷ codes "--lost" ∷ codes "--won" ∷ [])
+    × AreWrong View.Plain (codes "koth" ∷ codes "replay" ∷ codes "a" ∷ codes "b" ∷ codes "--round=2" ∷ codes "--tied" ∷ [])
+unfolding clap_on_literals koth_app
+no_rounds = (inr (refl, λ clear. true≢false (sym clear.0)), inr (refl, λ clear. true≢false (sym clear.0)))
+
+-- where tables are for people, a page needs a file
+pages : AsksFor View.Table (codes "replay") (codes "koth" ∷ codes "replay" ∷ codes "a" ∷ codes "b" ∷ codes "-o" ∷ codes "page.html" ∷ [])
+    × (first_of (codes "output") (given_by (codes "koth" ∷ codes "replay" ∷ codes "a" ∷ codes "b" ∷ codes "-o" ∷ codes "page.html" ∷ [])) ≡ Some (codes "page.html"))
+    × AreWrong View.Table (codes "koth" ∷ codes "replay" ∷ codes "a" ∷ codes "b" ∷ [])
+    × AsksFor View.Plain (codes "replay") (codes "koth" ∷ codes "replay" ∷ codes "a" ∷ codes "b" ∷ [])
+    × AsksFor View.Table (codes "fight") (codes "koth" ∷ codes "fight" ∷ codes "a" ∷ codes "b" ∷ [])
+unfolding clap_on_literals koth_app
+pages = (((refl, (refl, refl, refl, refl, tt)), refl), refl, inr (refl, λ clear. true≢false (sym clear.3)), ((refl, (refl, refl, refl, refl, tt)), refl), ((refl, (refl, refl, refl, refl, tt)), refl))
+
+-- an opponent or more, each in its place, and rounds one by one of one match alone
+opponents : AsksFor View.Plain (codes "fight") (codes "koth" ∷ codes "fight" ∷ codes "a" ∷ codes "b" ∷ codes "c" ∷ codes "--both" ∷ codes "d" ∷ [])
+    × (places_named (codes "OTHER") (given_by (codes "koth" ∷ codes "fight" ∷ codes "a" ∷ codes "b" ∷ codes "-" ∷ codes "--name=mine.red" ∷ []))
+    ≡ Place.File (codes "b") ∷ Place.Input (codes "mine.red") ∷ [])
+    × (place_named (codes "MINE") (given_by (codes "koth" ∷ codes "fight" ∷ codes "-" ∷ codes "b" ∷ [])) ≡ Place.Input (codes "standard input"))
+    × AsksFor View.Plain (codes "fight") (codes "koth" ∷ codes "fight" ∷ codes "a" ∷ codes "b" ∷ codes "--each" ∷ [])
+    × AreWrong View.Plain (codes "koth" ∷ codes "fight" ∷ codes "a" ∷ codes "b" ∷ codes "c" ∷ codes "--each" ∷ [])
+    × AreWrong View.Plain (codes "koth" ∷ codes "fight" ∷ codes "a" ∷ codes "b" ∷ codes "--both" ∷ codes "--each" ∷ [])
+unfolding clap_on_literals koth_app
+opponents = (((refl, (refl, refl, refl, refl, tt)), refl), refl, refl, ((refl, (refl, refl, refl, refl, tt)), refl), inr (refl, λ clear. true≢false (sym clear.2)), inr (refl, λ clear. true≢false (sym clear.2)))
+
+-- one source at most is the input, and only it has a name for messages
+inputs_given : AsksFor View.Plain (codes "submit") (codes "koth" ∷ codes "submit" ∷ codes "a.hill" ∷ codes "-" ∷ codes "--name=a.red" ∷ [])
+    × AsksFor View.Plain (codes "asm") (codes "koth" ∷ codes "asm" ∷ codes "--name=a.red" ∷ [])
+    × AreWrong View.Plain (codes "koth" ∷ codes "check" ∷ codes "-" ∷ codes "a.red" ∷ codes "-" ∷ [])
+    × AreWrong View.Plain (codes "koth" ∷ codes "replay" ∷ codes "-" ∷ codes "-" ∷ [])
+    × AreWrong View.Plain (codes "koth" ∷ codes "try" ∷ codes "a.hill" ∷ codes "a.red" ∷ codes "--name=b.red" ∷ [])
+    × AsksFor View.Plain (codes "show") (codes "koth" ∷ codes "show" ∷ codes "-" ∷ [])
+unfolding clap_on_literals koth_app
+inputs_given = (((refl, (refl, refl, refl, refl, tt)), refl), ((refl, (refl, refl, refl, refl, tt)), refl), inr (refl, λ clear. true≢false (sym clear.2)), inr (refl, λ clear. true≢false (sym clear.2)), inr (refl, λ clear. true≢false (sym clear.2)), ((refl, (refl, refl, refl, refl, tt)), refl))
+
+-- warnings, and what is denied
+warnings : AsksFor View.Plain (codes "check") (codes "koth" ∷ codes "check" ∷ codes "a" ∷ codes "--warnings" ∷ codes "--deny" ∷ codes "warnings" ∷ [])
+    × AreWrong View.Plain (codes "koth" ∷ codes "check" ∷ codes "a" ∷ codes "--deny=all" ∷ [])
+unfolding clap_on_literals koth_app
+warnings = (((refl, (refl, refl, refl, refl, tt)), refl), inr (refl, λ clear. true≢false (sym clear.1)))
 
 -- the seconds for which a submission waits, and none if that isn't asked for
 waits : (number_or 0 (one_of (codes "wait") (given_by (codes "koth" ∷ codes "submit" ∷ codes "a.hill" ∷ codes "a.red" ∷ codes "--wait=30" ∷ []))) ≡ 30)
@@ -272,22 +325,22 @@ unfolding clap_on_literals koth_app
 ranges = (refl, refl, refl, refl, refl, refl, refl, refl)
 
 -- a service whose hill is created with the settings that are given, and one without settings
-creations : AsksFor (codes "serve") (codes "koth" ∷ codes "serve" ∷ codes "a.hill" ∷ codes "--port=0" ∷ codes "--core=64" ∷ codes "--create" ∷ codes "-r5" ∷ [])
+creations : AsksFor View.Plain (codes "serve") (codes "koth" ∷ codes "serve" ∷ codes "a.hill" ∷ codes "--port=0" ∷ codes "--core=64" ∷ codes "--create" ∷ codes "-r5" ∷ [])
     × (settings_named (codes "koth" ∷ codes "serve" ∷ codes "a.hill" ∷ codes "--port=0" ∷ codes "--core=64" ∷ codes "--create" ∷ codes "-r5" ∷ []) ≡ record default_settings { core = 64; rounds = 5 })
     × (create_named (codes "koth" ∷ codes "serve" ∷ codes "a.hill" ∷ codes "--port=0" ∷ codes "--core=64" ∷ codes "--create" ∷ codes "-r5" ∷ []) ≡ true)
     × (create_named (codes "koth" ∷ codes "serve" ∷ codes "a.hill" ∷ codes "--port=0" ∷ []) ≡ false)
 unfolding clap_on_literals koth_app
-creations = (((refl, (refl, refl, refl, tt, refl, refl, refl, refl)), refl), refl, refl, refl)
+creations = (((refl, (refl, refl, refl, refl, tt)), refl), refl, refl, refl)
 
 -- settings for a hill that is there are wrong, the default ones too
-unused_settings : AreWrong (codes "koth" ∷ codes "serve" ∷ codes "a.hill" ∷ codes "--port=0" ∷ codes "--core=64" ∷ [])
-    × AreWrong (codes "koth" ∷ codes "serve" ∷ codes "a.hill" ∷ codes "--port=0" ∷ codes "--seed=1" ∷ [])
+unused_settings : AreWrong View.Plain (codes "koth" ∷ codes "serve" ∷ codes "a.hill" ∷ codes "--port=0" ∷ codes "--core=64" ∷ [])
+    × AreWrong View.Plain (codes "koth" ∷ codes "serve" ∷ codes "a.hill" ∷ codes "--port=0" ∷ codes "--seed=1" ∷ [])
 unfolding clap_on_literals koth_app
-unused_settings = (inr (refl, λ clear. true≢false (sym clear.2)), inr (refl, λ clear. true≢false (sym clear.2)))
+unused_settings = (inr (refl, λ clear. true≢false (sym clear.3)), inr (refl, λ clear. true≢false (sym clear.3)))
 
 -- a seed is drawn or given, and not both
-drawn_seeds : AsksFor (codes "create") (codes "koth" ∷ codes "create" ∷ codes "h.hill" ∷ codes "--draw-seed" ∷ codes "--capacity=5" ∷ [])
-    × AreWrong (codes "koth" ∷ codes "create" ∷ codes "h.hill" ∷ codes "--draw-seed" ∷ codes "--seed=1" ∷ [])
+drawn_seeds : AsksFor View.Plain (codes "create") (codes "koth" ∷ codes "create" ∷ codes "h.hill" ∷ codes "--draw-seed" ∷ codes "--capacity=5" ∷ [])
+    × AreWrong View.Plain (codes "koth" ∷ codes "create" ∷ codes "h.hill" ∷ codes "--draw-seed" ∷ codes "--seed=1" ∷ [])
     × (takes koth_app (codes "koth" ∷ codes "fight" ∷ codes "a" ∷ codes "b" ∷ codes "--draw-seed" ∷ []) ≡ false)
 unfolding clap_on_literals koth_app
-drawn_seeds = (((refl, (refl, refl, refl, tt, refl, refl, refl, refl)), refl), inr (refl, λ clear. true≢false (sym clear.4)), refl)
+drawn_seeds = (((refl, (refl, refl, refl, refl, tt)), refl), inr (refl, λ clear. true≢false (sym clear.0)), refl)

@@ -1,5 +1,5 @@
 -- The names of files, as texts.
-use Rattle.{std.proofs.Common.{◌≡◌, List, [], map, is_some, Option, None, Some, Bor, ◌∙◌, ap, option_map}, std.specs.Prelude.unwrap_or, clap.specs.Walk.Text}
+use Rattle.{std.proofs.Common.{◌≡◌, List, [], ◌∷◌, map, is_some, Option, None, Some, Bor, ◌∙◌, ap, option_map, refl}, std.specs.Prelude.unwrap_or, clap.specs.Walk.Text, koth_words.specs.Sources.place_at}
 
 -- the text of a file's name, or of another argument, if one is given
 pub file_text : {default : Text} (r : Option (Bor Text)) (empty x : Bor Text) (text : Option Text) → x ≡ unwrap_or r empty → empty.now ≡ default
@@ -19,3 +19,8 @@ file_texts (Some s) empty x texts is none named =
 pub same_given : (r : Option (Bor Text)) (text : Option Text) → option_map (λ s. s.now) r ≡ text → is_some r ≡ is_some text
 same_given None text named = ap (λ (t : Option Text). is_some t) named
 same_given (Some s) text named = ap (λ (t : Option Text). is_some t) named
+
+-- the places at words
+pub placed : (called : Text) (words : List (Bor Text)) → map (λ word. place_at called word.now) words ≡ map (place_at called) (map (λ word. word.now) words)
+placed called [] = refl
+placed called (word ∷ words) = ap (λ places. place_at called word.now ∷ places) (placed called words)

@@ -1,9 +1,9 @@
 -- What a command line asks for.
--- the options that give settings
+-- the numbers that options have
 pub mod Options
 -- the settings that words give
 pub mod Settings
--- the commands, as `clap` reads them
-pub mod Commands
+-- the sources that words name
+pub mod Sources
 -- the requests that command lines make
 pub mod Words

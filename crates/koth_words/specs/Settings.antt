@@ -1,5 +1,5 @@
 -- The settings that a command's words give: those of a hill that they name, or of a preset, or the default ones, and what options give in place of them.
-use Rattle.std.specs.{Prelude.{◌≡◌, ℕ, ◌==◌, Bool, ◌&&◌, ◌||◌, true, not, if◌then◌else◌, List, Option, codes, is_some, option_map, unwrap_or}, Option.option_map_or, Str.bytes_eq}
+use Rattle.std.specs.{Prelude.{◌≡◌, ℕ, ◌==◌, if◌then◌else◌, List, Option, codes, option_map, unwrap_or}, Option.option_map_or, Str.bytes_eq}
 use Rattle.{clap.specs.Words.{Row, Text, first_of, one_of}, war_types.specs.declared.settings.RawSettings.RawSettings}
 use Rattle.koth_words.specs.{Options.{default_settings, number_given}, declared.settings.Chosen.Chosen, declared.settings.Given.Given}
 
@@ -13,17 +13,6 @@ preset_settings name =
 -- those of the preset that is named, and else the default ones
 abbrev pub base_in : List Row → RawSettings
 base_in rows = option_map_or preset_settings (first_of (codes "preset") rows) default_settings
-
-abbrev pub is_preset : Text → Bool
-is_preset name = bytes_eq name (codes "94nop") || bytes_eq name (codes "tiny") || bytes_eq name (codes "nano")
-
--- the preset is `94nop`, `tiny`, `nano` or left out
-abbrev pub has_known_preset : List Row → Bool
-has_known_preset rows = option_map_or is_preset (first_of (codes "preset") rows) true
-
--- a hill and a preset are not both named
-abbrev pub has_one_base : List Row → Bool
-has_one_base rows = not (is_some (first_of (codes "like") rows) && is_some (first_of (codes "preset") rows))
 
 -- what options give
 abbrev pub chosen_in : List Row → Chosen

@@ -1,11 +1,12 @@
 -- What a command line asks for. `words` are its arguments, of which the first is the program's name.
-use Rattle.std.specs.Prelude.{◌≡◌, ◌≢◌, ◌⊎◌, ◌&&◌, ◌||◌, ⊤, ℕ, Bool, true, false, not, List, [], ◌∷◌, codes, map, Option, None, Some, IfSome, is_some, option_map, unwrap_or, if◌then◌else◌}
-use Rattle.std.specs.{Option.option_map_or, Net.{Addr.{IsMulticastV4, IsMulticastV6, MatchIp, ipv4_octets}, Grammar.IsIpText}, Str.bytes_eq, declared.net.ip_addr.IpAddr.IpAddr}
+use Rattle.std.specs.Prelude.{◌≡◌, ◌≢◌, ◌⊎◌, ◌==◌, ◌&&◌, ◌||◌, ⊤, ℕ, Bool, true, false, not, nat_le, nat_lt, List, [], ◌∷◌, length, codes, count_by, map, Option, None, Some, IfSome, is_some, option_map, unwrap_or, if◌then◌else◌}
+use Rattle.std.specs.{Option.option_map_or, Net.{Addr.{IsMulticastV4, IsMulticastV6, MatchIp, ipv4_octets}, Grammar.IsIpText}, Str.bytes_eq, List.list_any, declared.net.ip_addr.IpAddr.IpAddr}
 use Rattle.clap.specs.{Words.{IsAmong, Row, Text, all_of, fault_of, first_of, one_of, subcommand_of, takes}, declared.error.kind.ErrorKind.ErrorKind}
 use Rattle.war_types.specs.declared.settings.RawSettings.{RawSettings}
-use Rattle.koth_words.specs.{Options.{number_below, number_given, number_or}, Settings.{IsGiven, has_known_preset, has_one_base, settings_in}, declared.requests.Form.Form, declared.settings.Given.Given, declared.requests.NoRequest.NoRequest, declared.requests.Request.Request}
-use Rattle.koth_words.specs.{declared.requests.Request.TheVariants.{Asm, Check, Fight, Create, Submit, Show, Serve, Audit, Migrate, Page, Replay, Try, Copy, Reseed}, declared.requests.Source.Source, declared.requests.View.View}
-unfoldable pub use Rattle.koth_words.specs.Commands.{koth_app}
+use Rattle.koth_words.specs.{Options.{number_below, number_given, number_or}, Settings.{IsGiven, settings_in}, Sources.{inputs_in, is_input, place, place_named, places_named, words_in}, declared.settings.Given.Given}
+use Rattle.koth_words.specs.{declared.requests.Checked.Checked, declared.requests.Fighters.Fighters, declared.requests.Form.Form, declared.requests.NoRequest.NoRequest, declared.requests.Request.Request}
+use Rattle.koth_words.specs.{declared.requests.Request.TheVariants.{Asm, Check, Fight, Create, Submit, Show, Serve, Audit, Migrate, Page, Replay, Try, Copy, Reseed}, declared.requests.Round.Round, declared.requests.View.View}
+unfoldable pub use Rattle.koth_options.specs.Commands.{koth_app}
 
 -- what a command is given, if one is entered
 abbrev pub given_in : Option (Text × List Row) → List Row
@@ -39,11 +40,6 @@ matches_in given = has_flag (codes "matches") given
 abbrev pub matches_named : List (List ℕ) → Bool
 matches_named words = matches_in (given_by words)
 
--- `--settings` and `--matches` are not both given, and `--with-seed` with `--settings` alone
-abbrev pub has_one_sight : List Row → Bool
-has_one_sight given = not (has_flag (codes "settings") given && has_flag (codes "matches") given)
-    && (has_flag (codes "settings") given || not (has_flag (codes "with-seed") given))
-
 -- whether `--overwrite` is given, of `create`
 abbrev pub overwrite_named : List (List ℕ) → Bool
 overwrite_named words = has_flag (codes "overwrite") (given_by words)
@@ -60,55 +56,47 @@ replays_named words = has_flag (codes "replays") (given_by words)
 abbrev pub create_named : List (List ℕ) → Bool
 create_named words = has_flag (codes "create") (given_by words)
 
--- ---- layouts
-
-abbrev pub view_in : List Row → Option View
-view_in given =
-    if has_flag (codes "plain") given then Some View.Plain
-    else (if has_flag (codes "table") given then Some View.Table else None)
-
--- the layout that is asked for, if one is
-abbrev pub view_named : List (List ℕ) → Option View
-view_named words = view_in (given_by words)
-
--- `--plain` and `--table` are not both given
-abbrev pub has_one_view : List Row → Bool
-has_one_view given = not (has_flag (codes "plain") given && has_flag (codes "table") given)
-
--- ---- sources
-
--- no file, or `-`
-abbrev pub is_input : Option Text → Bool
-is_input None = true
-is_input (Some name) = bytes_eq name (codes "-")
-
--- whether `asm` reads standard input, and no file
-abbrev pub reads_input : List (List ℕ) → Bool
-reads_input words = is_input (first_of (codes "FILE") (given_by words))
-
--- the source is the input, or the file of this name
-abbrev pub IsSource : Option Text → Source → Type 0
-IsSource name Source.Input = is_input name ≡ true
-IsSource name (Source.File file) = (is_input name ≡ false) × (file.now ≡ text_or_none name)
-
--- ---- forms
+-- ---- formats and layouts
 
 abbrev pub is_json : Option Text → Bool
 is_json name = option_map_or (λ text. bytes_eq text (codes "json")) name false
 
+-- `--format` is `json`
+abbrev pub asks_json : List Row → Bool
+asks_json given = is_json (first_of (codes "format") given)
+
 abbrev pub form_in : List Row → Form
-form_in given = if is_json (first_of (codes "format") given) then Form.Json else Form.Text
+form_in given = if asks_json given then Form.Json else Form.Text
 
 -- the form of the report of `check`
 abbrev pub form_named : List (List ℕ) → Form
 form_named words = form_in (given_by words)
 
-abbrev pub is_form : Option Text → Bool
-is_form name = option_map_or (λ text. bytes_eq text (codes "text") || bytes_eq text (codes "json")) name true
+abbrev pub view_in : List Row → Option View
+view_in given =
+    if has_flag (codes "plain") given then Some View.Plain
+    else (if has_flag (codes "table") given then Some View.Table
+    else (if asks_json given then Some View.Json else None))
 
--- `--format` is `text`, `json` or left out
-abbrev pub has_known_form : List Row → Bool
-has_known_form given = is_form (first_of (codes "format") given)
+-- the layout that is asked for, if one is
+abbrev pub view_named : List (List ℕ) → Option View
+view_named words = view_in (given_by words)
+
+abbrev pub is_table : View → Bool
+is_table View.Table = true
+is_table _ = false
+
+-- whether `asm` reads standard input, and no file
+abbrev pub reads_input : List (List ℕ) → Bool
+reads_input words = is_input (text_or_none (first_of (codes "SOURCE") (given_by words)))
+
+-- the round that is asked for, and else the first
+abbrev pub round_in : List Row → Round
+round_in given =
+    if has_flag (codes "lost") given then Round.Lost
+    else (if has_flag (codes "won") given then Round.Won
+    else (if has_flag (codes "tied") given then Round.Tied
+    else Round.Number (number_or 1 (one_of (codes "round") given))))
 
 -- ---- addresses
 
@@ -139,29 +127,63 @@ has_setting given = has_option (codes "core") given || has_option (codes "cycles
     || has_option (codes "seed") given || has_option (codes "capacity") given || has_option (codes "read-limit") given
     || has_option (codes "write-limit") given || has_option (codes "preset") given
 
--- each setting that is given is used: `serve`, which alone takes a port, uses them with `--create` alone
-abbrev pub uses_settings : List Row → Bool
-uses_settings given = has_flag (codes "create") given || not (has_option (codes "port") given) || not (has_setting given)
+-- ---- words that are clear
 
--- `--draw-seed` and `--seed` are not both given
-abbrev pub has_one_seed : List Row → Bool
-has_one_seed given = not (has_flag (codes "draw-seed") given && has_option (codes "seed") given)
+-- at most one of these is given
+abbrev pub at_most_one : List Bool → Bool
+at_most_one given = nat_le (count_by (λ is_given. is_given) given) 1
+
+-- of layouts, of a seed that is drawn and one that is given, of a hill and a preset, of settings and matches to be shown, and of rounds
+abbrev pub has_one_choice : List Row → Bool
+has_one_choice given = at_most_one (has_flag (codes "plain") given ∷ has_flag (codes "table") given ∷ asks_json given ∷ [])
+    && at_most_one (has_flag (codes "draw-seed") given ∷ has_option (codes "seed") given ∷ [])
+    && at_most_one (has_option (codes "like") given ∷ has_option (codes "preset") given ∷ [])
+    && at_most_one (has_flag (codes "settings") given ∷ has_flag (codes "matches") given ∷ [])
+    && at_most_one (has_option (codes "round") given ∷ has_flag (codes "lost") given ∷ has_flag (codes "won") given ∷ has_flag (codes "tied") given ∷ [])
+
+-- no option, or one with one of these texts
+abbrev pub is_left_out_or : List Text → Option Text → Bool
+is_left_out_or known text = option_map_or (λ text. list_any (λ one. bytes_eq text one) known) text true
+
+-- the format is `text` or `json`, the preset is known, and what is denied is `warnings`, if they are given
+abbrev pub has_known_texts : List Row → Bool
+has_known_texts given = is_left_out_or (codes "text" ∷ codes "json" ∷ []) (first_of (codes "format") given)
+    && is_left_out_or (codes "94nop" ∷ codes "tiny" ∷ codes "nano" ∷ []) (first_of (codes "preset") given)
+    && is_left_out_or (codes "warnings" ∷ []) (first_of (codes "deny") given)
+
+-- at most one source is the input, and messages have a name for it only if there is one; each round is told of one match alone
+abbrev pub has_clear_sources : List Row → Bool
+has_clear_sources given = nat_le (inputs_in given) 1
+    && not (has_option (codes "name") given && inputs_in given == 0)
+    && not (has_flag (codes "each") given && (has_flag (codes "both") given || nat_lt 1 (length (words_in (codes "OTHER") given))))
+
+-- settings are given to a hill that has none: `serve`, which alone takes a port, uses them with `--create` alone
+abbrev pub uses_settings : List Row → Bool
+uses_settings given = not (has_option (codes "port") given && has_setting given && not (has_flag (codes "create") given))
+
+-- a page goes into a file or past the terminal: `replay`, which alone has `--lost`, has `--output` if tables are for people
+abbrev pub has_place : View → List Row → Bool
+has_place view given = not (has_option (codes "lost") given && is_table view && not (has_option (codes "output") given))
+
+-- what is given has what it needs
+abbrev pub has_needs : View → List Row → Bool
+has_needs view given = uses_settings given && has_place view given
+    && not (has_flag (codes "with-seed") given && not (has_flag (codes "settings") given))
+
+-- nothing that the program refuses beside `clap`, where tables are in this view
+abbrev pub AreClear : View → List Row → Type 0
+AreClear view given = (has_one_choice given ≡ true) × (has_known_texts given ≡ true) × (has_clear_sources given ≡ true)
+    × (has_needs view given ≡ true) × HasAddress given
 
 -- ---- words that are taken, and words that are wrong
 
--- nothing that the program refuses beside `clap`: two layouts, an unknown form, settings without a use, a text in place of an address of one machine, a seed that is
--- both drawn and given, an unknown preset, a preset beside a hill, or settings and matches that are both to be shown
-abbrev pub AreClear : List Row → Type 0
-AreClear given = (has_one_view given ≡ true) × (has_known_form given ≡ true) × (uses_settings given ≡ true) × HasAddress given × (has_one_seed given ≡ true)
-    × (has_known_preset given ≡ true) × (has_one_base given ≡ true) × (has_one_sight given ≡ true)
-
 -- the words are taken, by `clap`'s own definition and by `AreClear`
-abbrev pub AreTaken : List (List ℕ) → Type 0
-AreTaken words = (takes koth_app words ≡ true) × AreClear (given_by words)
+abbrev pub AreTaken : View → List (List ℕ) → Type 0
+AreTaken view words = (takes koth_app words ≡ true) × AreClear view (given_by words)
 
 -- the words are taken, and name this command
-abbrev pub AsksFor : List ℕ → List (List ℕ) → Type 0
-AsksFor verb words = AreTaken words
+abbrev pub AsksFor : View → List ℕ → List (List ℕ) → Type 0
+AsksFor view verb words = AreTaken view words
     × (option_map (λ entered. entered.0) (subcommand_of koth_app words) ≡ Some verb)
 
 -- `clap` finds a fault in the words, and they ask for neither help nor the version
@@ -171,33 +193,47 @@ HaveFault words = (fault_of koth_app words ≢ [])
     × ¬ IsAmong ErrorKind.DisplayVersion (fault_of koth_app words)
 
 -- `clap` finds no fault in the words, but they are not clear
-abbrev pub AreUnclear : List (List ℕ) → Type 0
-AreUnclear words = (fault_of koth_app words ≡ []) × ¬ AreClear (given_by words)
+abbrev pub AreUnclear : View → List (List ℕ) → Type 0
+AreUnclear view words = (fault_of koth_app words ≡ []) × ¬ AreClear view (given_by words)
 
 -- the words are refused
-abbrev pub AreWrong : List (List ℕ) → Type 0
-AreWrong words = HaveFault words ⊎ AreUnclear words
+abbrev pub AreWrong : View → List (List ℕ) → Type 0
+AreWrong view words = HaveFault words ⊎ AreUnclear view words
+
+-- the words ask for help, or for the version
+abbrev pub AskForHelp : List (List ℕ) → Type 0
+AskForHelp words = (fault_of koth_app words ≡ ErrorKind.DisplayHelp ∷ []) ⊎ (fault_of koth_app words ≡ ErrorKind.DisplayVersion ∷ [])
 
 -- ---- requests
+
+-- the sources to check, and how, are those that these rows give
+pub record IsChecked (given : List Row) (checked : Checked) : Type 0 where
+  pub files : map place checked.files.items ≡ places_named (codes "SOURCE") given
+  pub form : checked.form ≡ form_in given
+  pub warnings : checked.warnings ≡ (has_flag (codes "warnings") given || has_option (codes "deny") given)
+  pub deny : checked.deny ≡ has_option (codes "deny") given
+
+-- the warriors, and how they fight
+pub record AreFighters (given : List Row) (fighters : Fighters) : Type 0 where
+  pub older : place fighters.older ≡ place_named (codes "MINE") given
+  pub opponents : map place fighters.opponents.items ≡ places_named (codes "OTHER") given
+  pub both : fighters.both ≡ has_flag (codes "both") given
+  pub each : fighters.each ≡ has_flag (codes "each") given
+  pub view : fighters.view ≡ view_in given
 
 -- the request is that of the command that was entered, by its name and what it was given
 abbrev pub Asks : Text × List Row → Request → Type 0
 Asks entered (Asm given source) = (entered.0 ≡ codes "asm") × IsGiven entered.1 given
-    × IsSource (first_of (codes "FILE") entered.1) source
-Asks entered (Check given checked) = (entered.0 ≡ codes "check") × IsGiven entered.1 given
-    × (map (λ file. file.now) checked.files.items ≡ unwrap_or (all_of (codes "FILE") entered.1) [])
-    × (checked.form ≡ form_in entered.1)
-Asks entered (Fight given files) = (entered.0 ≡ codes "fight") × IsGiven entered.1 given
-    × (files.older.now ≡ text_or_none (first_of (codes "A") entered.1))
-    × (files.younger.now ≡ text_or_none (first_of (codes "B") entered.1))
-    × (files.view ≡ view_in entered.1)
+    × (place source ≡ place_named (codes "SOURCE") entered.1)
+Asks entered (Check given checked) = (entered.0 ≡ codes "check") × IsGiven entered.1 given × IsChecked entered.1 checked
+Asks entered (Fight given fighters) = (entered.0 ≡ codes "fight") × IsGiven entered.1 given × AreFighters entered.1 fighters
 Asks entered (Create given creation) = (entered.0 ≡ codes "create") × IsGiven entered.1 given
     × (creation.hill.now ≡ text_or_none (first_of (codes "FILE") entered.1))
     × (creation.overwrite ≡ has_flag (codes "overwrite") entered.1)
     × (creation.draw_seed ≡ has_flag (codes "draw-seed") entered.1)
 Asks entered (Submit files) = (entered.0 ≡ codes "submit")
     × (files.hill.now ≡ text_or_none (first_of (codes "FILE") entered.1))
-    × (files.source.now ≡ text_or_none (first_of (codes "SOURCE") entered.1))
+    × (place files.source ≡ place_named (codes "SOURCE") entered.1)
     × (files.view ≡ view_in entered.1)
     × (files.wait ≡ number_or 0 (one_of (codes "wait") entered.1))
 Asks entered (Show shown) = (entered.0 ≡ codes "show")
@@ -211,7 +247,7 @@ Asks entered (Serve settings service) = (entered.0 ≡ codes "serve") × (settin
     × (service.port ≡ number_below 65536 0 (one_of (codes "port") entered.1))
     × (service.peers ≡ number_or 64 (one_of (codes "peers") entered.1))
     × (service.peers_per_address ≡ number_given 4294967296 (one_of (codes "peers-per-address") entered.1))
-    × (service.steps ≡ number_or 1000000 (one_of (codes "steps") entered.1))
+    × (service.steps ≡ number_or 500000 (one_of (codes "steps") entered.1))
     × IsAddress (first_of (codes "listen") entered.1) service.listen
     × (service.connections ≡ number_given 4294967296 (one_of (codes "connections") entered.1))
     × (service.http ≡ number_given 4294967296 (one_of (codes "http") entered.1))
@@ -219,20 +255,22 @@ Asks entered (Serve settings service) = (entered.0 ≡ codes "serve") × (settin
     × (service.replays ≡ has_flag (codes "replays") entered.1)
     × (service.quiet ≡ has_flag (codes "quiet") entered.1)
     × (service.create ≡ has_flag (codes "create") entered.1)
-Asks entered (Audit file) = (entered.0 ≡ codes "audit")
-    × (file.now ≡ text_or_none (first_of (codes "FILE") entered.1))
+Asks entered (Audit audited) = (entered.0 ≡ codes "audit")
+    × (audited.hill.now ≡ text_or_none (first_of (codes "FILE") entered.1))
+    × (audited.view ≡ view_in entered.1)
 Asks entered (Migrate files) = (entered.0 ≡ codes "migrate")
     × (files.old.now ≡ text_or_none (first_of (codes "FILE") entered.1))
     × (files.new.now ≡ text_or_none (first_of (codes "NEW") entered.1))
 Asks entered (Page file) = (entered.0 ≡ codes "page")
     × (file.now ≡ text_or_none (first_of (codes "FILE") entered.1))
 Asks entered (Replay given watched) = (entered.0 ≡ codes "replay") × IsGiven entered.1 given
-    × (watched.older.now ≡ text_or_none (first_of (codes "A") entered.1))
-    × (watched.younger.now ≡ text_or_none (first_of (codes "B") entered.1))
-    × (watched.round ≡ number_or 1 (one_of (codes "round") entered.1))
+    × (place watched.older ≡ place_named (codes "MINE") entered.1)
+    × (place watched.younger ≡ place_named (codes "OTHER") entered.1)
+    × (watched.round ≡ round_in entered.1)
+    × (option_map (λ file. file.now) watched.page ≡ first_of (codes "output") entered.1)
 Asks entered (Try files) = (entered.0 ≡ codes "try")
     × (files.hill.now ≡ text_or_none (first_of (codes "FILE") entered.1))
-    × (files.source.now ≡ text_or_none (first_of (codes "SOURCE") entered.1))
+    × (place files.source ≡ place_named (codes "SOURCE") entered.1)
     × (files.view ≡ view_in entered.1)
 Asks entered (Copy files) = (entered.0 ≡ codes "copy")
     × (files.hill.now ≡ text_or_none (first_of (codes "FILE") entered.1))
@@ -257,7 +295,7 @@ given_of (Create given creation) = Some given
 given_of (Submit files) = None
 given_of (Show shown) = None
 given_of (Serve settings service) = None
-given_of (Audit file) = None
+given_of (Audit audited) = None
 given_of (Migrate files) = None
 given_of (Page file) = None
 given_of (Replay given watched) = Some given
@@ -282,3 +320,9 @@ abbrev pub IsRefusal : NoRequest → Type 0
 IsRefusal (NoRequest.Help text) = ⊥
 IsRefusal (NoRequest.WordFault text) = ⊤
 IsRefusal NoRequest.Memory = ⊤
+
+-- there is no request, and the words are not wrong
+abbrev pub IsHelp : NoRequest → Type 0
+IsHelp (NoRequest.Help text) = ⊤
+IsHelp (NoRequest.WordFault text) = ⊥
+IsHelp NoRequest.Memory = ⊤

@@ -1,40 +1,31 @@
 //! What the arguments that `clap` took give a command.
 
-ghost use Rattle.std.specs.Prelude.{◌≡◌, [], codes, map, option_map, unwrap_or, IfOk};
-ghost use Rattle.{clap.specs.Words.{all_of, first_of, found_of, one_of, rows_of}, koth_words.specs.Options.{number_given, number_or}};
-ghost use Rattle.koth_words.specs.Words.{form_in, has_flag, has_known_form, has_one_seed, has_one_sight, has_one_view, has_option, has_setting, matches_in, text_or_none};
-ghost use Rattle.koth_words.specs.Words.{uses_settings, view_in, IsSource};
+ghost use Rattle.std.specs.Prelude.{◌≡◌, codes, map, option_map, IfOk};
+ghost use Rattle.{clap.specs.Words.{all_of, first_of, found_of, one_of, rows_of}, koth_words.specs.{Options.{number_given, number_or}, Sources.{place, place_named, words_in}}};
+ghost use Rattle.koth_words.specs.Words.{asks_json, form_in, has_flag, has_option, has_setting, matches_in, round_in, text_or_none, view_in, AreFighters, IsChecked};
 
 use crate::options::{number_given, number_if_given};
 use crate::requests::{
-    Checked, Copied, Creation, Fighters, Form, Migration, Reseeded, Shown, Source, Submission,
-    View, Watched,
+    Audited, Checked, Copied, Creation, Fighters, Form, Migration, Reseeded, Round, Shown,
+    Submission, View, Watched,
 };
+use crate::sources::{source_named, sources_named};
 use clap::ArgMatches;
 use std::alloc::{AllocError, Global};
-
-/// The source that `asm` reads.
-pub(crate) fn source_named<'w>(matches: &ArgMatches<'w>) -> Source<'w>
-    ensures { IsSource (first_of (codes "FILE") (rows_of (found_of matches.now))) result }
-{
-    match text_given(matches, "FILE") {
-        None | Some("-") => Source::Input,
-        Some(file) => Source::File(file),
-    }
-}
 
 /// The sources to check, and the form of the report.
 pub(crate) fn checked_named<'w>(
     heap: Global,
     matches: &ArgMatches<'w>,
 ) -> Result<Checked<'w>, AllocError>
-    ensures files { IfOk result (λ checked. map (λ file. file.now) checked.files.items
-        ≡ unwrap_or (all_of (codes "FILE") (rows_of (found_of matches.now))) []) }
-    ensures form { IfOk result (λ checked. checked.form ≡ form_in (rows_of (found_of matches.now))) }
+    ensures { IfOk result (IsChecked (rows_of (found_of matches.now))) }
 {
+    let deny = option_given(matches, "deny");
     Ok(Checked {
-        files: texts_given(heap, matches, "FILE")?,
+        files: sources_named(heap, matches, "SOURCE")?,
         form: form_given(matches),
+        warnings: flag_given(matches, "warnings") | deny,
+        deny,
     })
 }
 
@@ -44,30 +35,35 @@ pub(crate) fn texts_given<'w>(
     matches: &ArgMatches<'w>,
     name: &str,
 ) -> Result<Vec<&'w str>, AllocError>
-    ensures { IfOk result (λ texts. map (λ text. text.now) texts.items ≡ unwrap_or (all_of name.now (rows_of (found_of matches.now))) []) }
+    ensures { IfOk result (λ texts. map (λ text. text.now) texts.items ≡ words_in name.now (rows_of (found_of matches.now))) }
 {
     let mut texts = Vec::new(heap);
-    texts.extend_from_slice(matches.get_strs(name).unwrap_or(&[]))?;
+    texts.extend_from_slice(words_given(matches, name).unwrap_or(&[]))?;
     Ok(texts)
+}
+
+/// The words that are given under this name, in their order, if there are any.
+pub(crate) fn words_given<'m, 'w>(matches: &'m ArgMatches<'w>, name: &str) -> Option<&'m [&'w str]>
+    ensures { option_map (λ words. map (λ word. word.now) words.now) result ≡ all_of name.now (rows_of (found_of matches.now)) }
+{
+    matches.get_strs(name)
 }
 
 fn form_given(matches: &ArgMatches<'_>) -> Form
     ensures { result ≡ form_in (rows_of (found_of matches.now)) }
 {
-    match text_given(matches, "format") {
-        Some("json") => Form::Json,
-        _ => Form::Text,
+    if asks_json(matches) {
+        Form::Json
+    } else {
+        Form::Text
     }
 }
 
-/// Whether `--format` is `text`, `json` or left out.
-pub(crate) fn has_known_form(matches: &ArgMatches<'_>) -> bool
-    ensures { result ≡ has_known_form (rows_of (found_of matches.now)) }
+/// Whether `--format` is `json`.
+pub(crate) fn asks_json(matches: &ArgMatches<'_>) -> bool
+    ensures { result ≡ asks_json (rows_of (found_of matches.now)) }
 {
-    match text_given(matches, "format") {
-        Some(form) => form == "text" || form == "json",
-        None => true,
-    }
+    text_given(matches, "format") == Some("json")
 }
 
 /// The layout that is asked for, if one is.
@@ -78,28 +74,26 @@ fn view_given(matches: &ArgMatches<'_>) -> Option<View>
         Some(View::Plain)
     } else if flag_given(matches, "table") {
         Some(View::Table)
+    } else if asks_json(matches) {
+        Some(View::Json)
     } else {
         None
     }
 }
 
-/// Whether at most one layout is asked for.
-pub(crate) fn has_one_view(matches: &ArgMatches<'_>) -> bool
-    ensures { result ≡ has_one_view (rows_of (found_of matches.now)) }
+pub(crate) fn fighters_named<'w>(
+    heap: Global,
+    matches: &ArgMatches<'w>,
+) -> Result<Fighters<'w>, AllocError>
+    ensures { IfOk result (AreFighters (rows_of (found_of matches.now))) }
 {
-    !(flag_given(matches, "plain") && flag_given(matches, "table"))
-}
-
-pub(crate) fn fighters_named<'w>(matches: &ArgMatches<'w>) -> Fighters<'w>
-    ensures older { result.older.now ≡ text_or_none (first_of (codes "A") (rows_of (found_of matches.now))) }
-    ensures younger { result.younger.now ≡ text_or_none (first_of (codes "B") (rows_of (found_of matches.now))) }
-    ensures view { result.view ≡ view_in (rows_of (found_of matches.now)) }
-{
-    Fighters {
-        older: file_named(matches, "A"),
-        younger: file_named(matches, "B"),
+    Ok(Fighters {
+        older: source_named(matches, "MINE"),
+        opponents: sources_named(heap, matches, "OTHER")?,
+        both: flag_given(matches, "both"),
+        each: flag_given(matches, "each"),
         view: view_given(matches),
-    }
+    })
 }
 
 pub(crate) fn creation_named<'w>(matches: &ArgMatches<'w>) -> Creation<'w>
@@ -114,30 +108,15 @@ pub(crate) fn creation_named<'w>(matches: &ArgMatches<'w>) -> Creation<'w>
     }
 }
 
-/// Whether settings and matches are not both to be shown, and the seed only with the settings.
-pub(crate) fn has_one_sight(matches: &ArgMatches<'_>) -> bool
-    ensures { result ≡ has_one_sight (rows_of (found_of matches.now)) }
-{
-    !(flag_given(matches, "settings") && flag_given(matches, "matches"))
-        && (flag_given(matches, "settings") || !flag_given(matches, "with-seed"))
-}
-
-/// Whether the seed is not both given and drawn.
-pub(crate) fn has_one_seed(matches: &ArgMatches<'_>) -> bool
-    ensures { result ≡ has_one_seed (rows_of (found_of matches.now)) }
-{
-    !(flag_given(matches, "draw-seed") && option_given(matches, "seed"))
-}
-
 pub(crate) fn submission_named<'w>(matches: &ArgMatches<'w>) -> Submission<'w>
     ensures hill { result.hill.now ≡ text_or_none (first_of (codes "FILE") (rows_of (found_of matches.now))) }
-    ensures source { result.source.now ≡ text_or_none (first_of (codes "SOURCE") (rows_of (found_of matches.now))) }
+    ensures source { place result.source ≡ place_named (codes "SOURCE") (rows_of (found_of matches.now)) }
     ensures view { result.view ≡ view_in (rows_of (found_of matches.now)) }
     ensures wait { result.wait ≡ number_or 0 (one_of (codes "wait") (rows_of (found_of matches.now))) }
 {
     Submission {
         hill: file_named(matches, "FILE"),
-        source: file_named(matches, "SOURCE"),
+        source: source_named(matches, "SOURCE"),
         view: view_given(matches),
         wait: number_given(matches, "wait", 0),
     }
@@ -159,15 +138,8 @@ pub(crate) fn shown_named<'w>(matches: &ArgMatches<'w>) -> Shown<'w>
     }
 }
 
-/// Whether each setting that is given is used. `serve`, which alone takes a port, uses them with `--create` alone.
-pub(crate) fn uses_settings(matches: &ArgMatches<'_>) -> bool
-    ensures { result ≡ uses_settings (rows_of (found_of matches.now)) }
-{
-    flag_given(matches, "create") | !option_given(matches, "port") | !setting_given(matches)
-}
-
 /// Whether an option that gives a setting is given.
-fn setting_given(matches: &ArgMatches<'_>) -> bool
+pub(crate) fn setting_given(matches: &ArgMatches<'_>) -> bool
     ensures { result ≡ has_setting (rows_of (found_of matches.now)) }
 {
     option_given(matches, "core")
@@ -194,14 +166,41 @@ pub(crate) fn migration_named<'w>(matches: &ArgMatches<'w>) -> Migration<'w>
 }
 
 pub(crate) fn watched_named<'w>(matches: &ArgMatches<'w>) -> Watched<'w>
-    ensures older { result.older.now ≡ text_or_none (first_of (codes "A") (rows_of (found_of matches.now))) }
-    ensures younger { result.younger.now ≡ text_or_none (first_of (codes "B") (rows_of (found_of matches.now))) }
-    ensures round { result.round ≡ number_or 1 (one_of (codes "round") (rows_of (found_of matches.now))) }
+    ensures older { place result.older ≡ place_named (codes "MINE") (rows_of (found_of matches.now)) }
+    ensures younger { place result.younger ≡ place_named (codes "OTHER") (rows_of (found_of matches.now)) }
+    ensures round { result.round ≡ round_in (rows_of (found_of matches.now)) }
+    ensures page { option_map (λ file. file.now) result.page ≡ first_of (codes "output") (rows_of (found_of matches.now)) }
 {
     Watched {
-        older: file_named(matches, "A"),
-        younger: file_named(matches, "B"),
-        round: number_given(matches, "round", 1),
+        older: source_named(matches, "MINE"),
+        younger: source_named(matches, "OTHER"),
+        round: round_given(matches),
+        page: text_given(matches, "output"),
+    }
+}
+
+/// The round that is asked for, and else the first.
+fn round_given(matches: &ArgMatches<'_>) -> Round
+    ensures { result ≡ round_in (rows_of (found_of matches.now)) }
+{
+    if flag_given(matches, "lost") {
+        Round::Lost
+    } else if flag_given(matches, "won") {
+        Round::Won
+    } else if flag_given(matches, "tied") {
+        Round::Tied
+    } else {
+        Round::Number(number_given(matches, "round", 1))
+    }
+}
+
+pub(crate) fn audited_named<'w>(matches: &ArgMatches<'w>) -> Audited<'w>
+    ensures hill { result.hill.now ≡ text_or_none (first_of (codes "FILE") (rows_of (found_of matches.now))) }
+    ensures view { result.view ≡ view_in (rows_of (found_of matches.now)) }
+{
+    Audited {
+        hill: file_named(matches, "FILE"),
+        view: view_given(matches),
     }
 }
 

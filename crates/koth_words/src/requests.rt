@@ -14,7 +14,7 @@ pub enum Request<'w> {
     Asm(Given<'w>, Source<'w>),
     /// `check`: assemble sources under these settings, and report what is wrong with them.
     Check(Given<'w>, Checked<'w>),
-    /// `fight`: play a match under these settings, and write its counts.
+    /// `fight`: play matches under these settings, and write their counts.
     Fight(Given<'w>, Fighters<'w>),
     /// `create`: create a hill with these settings in a file.
     Create(Given<'w>, Creation<'w>),
@@ -24,8 +24,8 @@ pub enum Request<'w> {
     Show(Shown<'w>),
     /// `serve`: serve sessions on a hill, which is created with these settings if that is asked for and there is none.
     Serve(RawSettings, Service<'w>),
-    /// `audit`: play the match of every pair on the hill in this file again, and write whether each kept result is right.
-    Audit(&'w str),
+    /// `audit`: play the match of every pair on a hill again, and write whether each kept result is right.
+    Audit(Audited<'w>),
     /// `migrate`: move a hill of the old format to a new file.
     Migrate(Migration<'w>),
     /// `page`: write the page of the hill in this file.
@@ -67,19 +67,23 @@ impl<'w> Request<'w> {
 /// The place that a source is read from.
 #[derive(Clone, Copy)]
 pub enum Source<'w> {
-    /// The standard input: no file is named, or `-`.
-    Input,
+    /// The standard input, named `-`, and what messages call it.
+    Input(&'w str),
     /// The file of this name.
     File(&'w str),
 }
 
-/// The files of sources that are checked.
+/// The sources that are checked, and how.
 #[derive(Drop)]
 pub struct Checked<'w> {
     /// In the order of the command line; one or more.
-    pub files: Vec<&'w str>,
+    pub files: Vec<Source<'w>>,
     /// The form of the report.
     pub form: Form,
+    /// Whether the report has warnings.
+    pub warnings: bool,
+    /// Whether a warning is refused as a fault is.
+    pub deny: bool,
 }
 
 /// The form of the report of `check`.
@@ -91,20 +95,27 @@ pub enum Form {
     Json,
 }
 
-/// How output for people is laid out.
+/// How output is laid out.
 #[derive(Clone, Copy)]
 pub enum View {
     /// One fact a line.
     Plain,
-    /// Columns under a heading.
+    /// Columns under a heading, for people.
     Table,
+    /// One JSON object a line.
+    Json,
 }
 
-/// The files of two warriors.
-#[derive(Clone, Copy)]
+/// The sources of a warrior and of its opponents.
+#[derive(Drop)]
 pub struct Fighters<'w> {
-    pub older: &'w str,
-    pub younger: &'w str,
+    pub older: Source<'w>,
+    /// In the order of the command line; one or more.
+    pub opponents: Vec<Source<'w>>,
+    /// Whether each match is played in the other order too.
+    pub both: bool,
+    /// Whether each round is told; then there is one opponent.
+    pub each: bool,
     /// The layout that is asked for, if one is.
     pub view: Option<View>,
 }
@@ -120,11 +131,11 @@ pub struct Creation<'w> {
     pub draw_seed: bool,
 }
 
-/// The files of a hill and of a source for it.
+/// The file of a hill, and a source for it.
 #[derive(Clone, Copy)]
 pub struct Submission<'w> {
     pub hill: &'w str,
-    pub source: &'w str,
+    pub source: Source<'w>,
     /// The layout that is asked for, if one is.
     pub view: Option<View>,
     /// Seconds for which the hill's lock is tried again if another program has it, at most 3,600; 0 if that isn't asked for.
@@ -141,6 +152,14 @@ pub struct Shown<'w> {
     pub settings: bool,
     /// Whether the seed is among them.
     pub with_seed: bool,
+    /// The layout that is asked for, if one is.
+    pub view: Option<View>,
+}
+
+/// The file of a hill that is looked over.
+#[derive(Clone, Copy)]
+pub struct Audited<'w> {
+    pub hill: &'w str,
     /// The layout that is asked for, if one is.
     pub view: Option<View>,
 }
@@ -182,13 +201,27 @@ pub struct Migration<'w> {
     pub new: &'w str,
 }
 
-/// The files of two warriors, and which round of their match is shown.
+/// The sources of two warriors, and which round of their match is shown.
 #[derive(Clone, Copy)]
 pub struct Watched<'w> {
-    pub older: &'w str,
-    pub younger: &'w str,
-    /// The first round is 1.
-    pub round: u32,
+    pub older: Source<'w>,
+    pub younger: Source<'w>,
+    pub round: Round,
+    /// The file for the page; it is written on the output if none is named.
+    pub page: Option<&'w str>,
+}
+
+/// A round of a match.
+#[derive(Clone, Copy)]
+pub enum Round {
+    /// That of this number; the first is 1.
+    Number(u32),
+    /// The first that the older warrior lost.
+    Lost,
+    /// The first that it won.
+    Won,
+    /// The first tie.
+    Tied,
 }
 
 /// The files of a hill and of its copy.

@@ -2,9 +2,9 @@
 
 ghost use Rattle.std.specs.Prelude.{◌≡◌, Ok, codes};
 ghost use Rattle.{clap.specs.Words.{first_of, found_of, rows_of}, war_types.specs.Settings.settings_of};
-ghost use Rattle.koth_words.specs.Settings.{IsGiven, base_in, chosen_in, given_as, has_known_preset, has_one_base, limit_given, over, settings_in};
+ghost use Rattle.koth_words.specs.Settings.{IsGiven, base_in, chosen_in, given_as, limit_given, over, settings_in};
 
-use crate::given::{option_given, text_given};
+use crate::given::text_given;
 use crate::options::{DEFAULTS, number_if_given};
 use clap::ArgMatches;
 use war_types::{RawSettings, Settings};
@@ -144,23 +144,6 @@ fn base_given(matches: &ArgMatches<'_>) -> RawSettings
         Some("nano") => NANO,
         _ => DEFAULTS,
     }
-}
-
-/// Whether the preset is `94nop`, `tiny`, `nano` or left out.
-pub(crate) fn has_known_preset(matches: &ArgMatches<'_>) -> bool
-    ensures { result ≡ has_known_preset (rows_of (found_of matches.now)) }
-{
-    match text_given(matches, "preset") {
-        Some(name) => name == "94nop" || name == "tiny" || name == "nano",
-        None => true,
-    }
-}
-
-/// Whether a hill and a preset are not both named.
-pub(crate) fn has_one_base(matches: &ArgMatches<'_>) -> bool
-    ensures { result ≡ has_one_base (rows_of (found_of matches.now)) }
-{
-    !(option_given(matches, "like") && option_given(matches, "preset"))
 }
 
 fn chosen_given(matches: &ArgMatches<'_>) -> Chosen

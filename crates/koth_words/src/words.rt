@@ -1,98 +1,63 @@
 //! The requests that the arguments of a command line make.
 
-ghost use Rattle.std.specs.Prelude.{◌≡◌, ◌≢◌, codes, map, IfOk, IfErr, IsErrAnd, string_bytes};
+ghost use Rattle.std.specs.Prelude.{◌≡◌, ◌≢◌, ◌⊎◌, codes, map, IfOk, IfErr, IsErrAnd, string_bytes};
 ghost use Rattle.clap.specs.Words.{found_of, kind_of, rows_of, subcommand_name_of, subcommand_of, subcommand_rows_of};
-ghost use Rattle.koth_words.specs.Words.{given_in, koth_app, AreClear, AreTaken, AreWrong, Asks, AsksBy, HasAddress, IsCommandName, IsRefusal, NamesCommand};
+ghost use Rattle.koth_words.specs.Words.{given_in, koth_app, AreClear, AreTaken, AreWrong, AskForHelp, Asks, AsksBy, HasAddress, IsCommandName, IsHelp, IsRefusal, NamesCommand};
 
-use crate::commands::koth_command;
+use crate::clear::unclear;
 use crate::given::{
-    checked_named, copied_named, creation_named, fighters_named, file_named, has_known_form,
-    has_one_seed, has_one_sight, has_one_view, migration_named, reseeded_named, shown_named,
-    source_named, submission_named, uses_settings, watched_named,
+    audited_named, checked_named, copied_named, creation_named, fighters_named, file_named,
+    migration_named, reseeded_named, shown_named, submission_named, watched_named,
 };
-use crate::requests::{NoRequest, Request};
-use crate::serving::{has_address, service_named};
-use crate::settings::{given_named, has_known_preset, has_one_base, settings_given};
+use crate::habits::habit_among;
+use crate::requests::{NoRequest, Request, View};
+use crate::serving::service_named;
+use crate::settings::{given_named, settings_given};
+use crate::sources::source_named;
 use clap::error::ErrorKind;
 use clap::{ArgMatches, Error};
+use koth_options::koth_command;
 use std::alloc::{AllocError, Global};
 
-const TWO_VIEWS: &str = "the argument '--plain' cannot be used with '--table'";
-
-const UNKNOWN_FORM: &str = "the argument '--format <FORM>' takes 'text' or 'json'";
-
-const UNUSED_SETTINGS: &str =
-    "options that give settings need '--create': a hill that is there keeps its own";
-
-const NO_ADDRESS: &str =
-    "the argument '--listen <ADDRESS>' takes an IPv4 or IPv6 address of one machine, without a port";
-
-const TWO_SEEDS: &str = "the argument '--draw-seed' cannot be used with '--seed <NUMBER>'";
-
-const UNKNOWN_PRESET: &str = "the argument '--preset <NAME>' takes '94nop', 'tiny' or 'nano'";
-
-const TWO_BASES: &str = "the argument '--like <FILE>' cannot be used with '--preset <NAME>'";
-
-const TWO_SIGHTS: &str =
-    "the argument '--settings' cannot be used with '--matches', and '--with-seed' needs '--settings'";
-
-/// What a command line asks for. The first of `words` is the program's name.
+/// What a command line asks for, where tables are in `view` unless it asks for another. The first of `words` is the program's name.
 ///
-/// Words that are taken (`AreTaken`) give the request of their command: words that `koth_app` takes by `clap`'s own definition, with at most one
-/// of `--plain` and `--table`, of `--draw-seed` and `--seed`, of `--like` and `--preset`, and of `--settings` and `--matches`, with `--with-seed` only beside `--settings`,
-/// with no format but `text` and `json`, with no preset but `94nop`, `tiny` and `nano`, with an address of one machine if one to listen at is given, and with settings for
-/// `serve` only if it may create the hill. All others give a text, as do those that ask for help or for the version. Without memory for any of these the
-/// answer is `NoRequest::Memory`.
-pub fn parse(heap: Global, words: &[String]) -> Result<Request<'_>, NoRequest>
+/// Words that are taken (`AreTaken`) give the request of their command: words that `koth_app` takes by `clap`'s own definition, and that are clear
+/// (`AreClear`). Those that ask for help or for the version give that text. All others give a text that says what is wrong. Without memory for any of
+/// these the answer is `NoRequest::Memory`.
+pub fn parse(heap: Global, words: &[String], view: View) -> Result<Request<'_>, NoRequest>
     ensures request { IfOk result (λ request.
         AsksBy (subcommand_of koth_app (map (λ w. string_bytes w) words.entry.now)) request) }
-    ensures taken { AreTaken (map (λ w. string_bytes w) words.entry.now)
+    ensures taken { AreTaken view (map (λ w. string_bytes w) words.entry.now)
         → IfErr result (λ e. e ≡ NoRequest.Memory) }
-    ensures wrong { AreWrong (map (λ w. string_bytes w) words.entry.now) → IsErrAnd result IsRefusal }
+    ensures wrong { AreWrong view (map (λ w. string_bytes w) words.entry.now) → IsErrAnd result IsRefusal }
+    ensures help { AskForHelp (map (λ w. string_bytes w) words.entry.now) → IsErrAnd result IsHelp }
 {
     let command = match koth_command(heap) {
         Ok(command) => command,
         Err(AllocError) => return Err(NoRequest::Memory),
     };
     match command.try_get_matches_from(words) {
-        Ok(matches) => request_of(heap, &matches),
-        Err(error) => Err(no_request(heap, &error)),
+        Ok(matches) => request_of(heap, &matches, view),
+        Err(error) => Err(no_request(heap, &error, words)),
     }
 }
 
-fn request_of<'w>(heap: Global, matches: &ArgMatches<'w>) -> Result<Request<'w>, NoRequest>
+fn request_of<'w>(
+    heap: Global,
+    matches: &ArgMatches<'w>,
+    view: View,
+) -> Result<Request<'w>, NoRequest>
     requires { NamesCommand (subcommand_name_of matches.now) }
     ensures request { IfOk result (λ request. AsksBy (subcommand_rows_of matches.now) request) }
-    ensures taken { AreClear (given_in (subcommand_rows_of matches.now))
+    ensures taken { AreClear view (given_in (subcommand_rows_of matches.now))
         → IfErr result (λ e. e ≡ NoRequest.Memory) }
-    ensures wrong { (AreClear (given_in (subcommand_rows_of matches.now)) → ⊥) → IsErrAnd result IsRefusal }
+    ensures wrong { (AreClear view (given_in (subcommand_rows_of matches.now)) → ⊥) → IsErrAnd result IsRefusal }
 {
     let Some((name, given)) = matches.subcommand() else {
         unreachable!()
     };
-    if !has_one_view(given) {
-        return Err(word_fault(heap, TWO_VIEWS));
-    }
-    if !has_known_form(given) {
-        return Err(word_fault(heap, UNKNOWN_FORM));
-    }
-    if !uses_settings(given) {
-        return Err(word_fault(heap, UNUSED_SETTINGS));
-    }
-    if !has_address(given) {
-        return Err(word_fault(heap, NO_ADDRESS));
-    }
-    if !has_one_seed(given) {
-        return Err(word_fault(heap, TWO_SEEDS));
-    }
-    if !has_known_preset(given) {
-        return Err(word_fault(heap, UNKNOWN_PRESET));
-    }
-    if !has_one_base(given) {
-        return Err(word_fault(heap, TWO_BASES));
-    }
-    if !has_one_sight(given) {
-        return Err(word_fault(heap, TWO_SIGHTS));
+    if let Some(why) = unclear(view, given) {
+        return Err(word_fault(heap, why));
     }
     match asked(heap, name, given) {
         Ok(request) => Ok(request),
@@ -107,12 +72,15 @@ fn asked<'w>(heap: Global, name: &str, given: &ArgMatches<'w>) -> Result<Request
     ensures { IfOk result (Asks (name.now, rows_of (found_of given.now))) }
 {
     match name {
-        "asm" => Ok(Request::Asm(given_named(given), source_named(given))),
+        "asm" => Ok(Request::Asm(given_named(given), source_named(given, "SOURCE"))),
         "check" => match checked_named(heap, given) {
             Ok(checked) => Ok(Request::Check(given_named(given), checked)),
             Err(error) => Err(error),
         },
-        "fight" => Ok(Request::Fight(given_named(given), fighters_named(given))),
+        "fight" => match fighters_named(heap, given) {
+            Ok(fighters) => Ok(Request::Fight(given_named(given), fighters)),
+            Err(error) => Err(error),
+        },
         "create" => Ok(Request::Create(given_named(given), creation_named(given))),
         "submit" => Ok(Request::Submit(submission_named(given))),
         "show" => Ok(Request::Show(shown_named(given))),
@@ -120,7 +88,7 @@ fn asked<'w>(heap: Global, name: &str, given: &ArgMatches<'w>) -> Result<Request
             Ok(service) => Ok(Request::Serve(settings_given(given), service)),
             Err(error) => Err(error),
         },
-        "audit" => Ok(Request::Audit(file_named(given, "FILE"))),
+        "audit" => Ok(Request::Audit(audited_named(given))),
         "migrate" => Ok(Request::Migrate(migration_named(given))),
         "page" => Ok(Request::Page(file_named(given, "FILE"))),
         "replay" => Ok(Request::Replay(given_named(given), watched_named(given))),
@@ -141,14 +109,22 @@ fn word_fault(heap: Global, why: &str) -> NoRequest
     }
 }
 
-fn no_request(heap: Global, error: &Error) -> NoRequest
+/// Why words that `clap` doesn't take give no request.
+fn no_request(heap: Global, error: &Error, words: &[String]) -> NoRequest
     ensures memory { kind_of error.now ≡ ErrorKind.OutOfMemory → result ≡ NoRequest.Memory }
     ensures wrong { kind_of error.now ≢ ErrorKind.DisplayHelp
         → kind_of error.now ≢ ErrorKind.DisplayVersion
         → IsRefusal result }
+    ensures help { (kind_of error.now ≡ ErrorKind.DisplayHelp) ⊎ (kind_of error.now ≡ ErrorKind.DisplayVersion)
+        → IsHelp result }
 {
     if error.kind() == ErrorKind::OutOfMemory {
         return NoRequest::Memory;
+    }
+    if error.kind() == ErrorKind::UnknownArgument {
+        if let Some(why) = habit_among(words) {
+            return word_fault(heap, why);
+        }
     }
     match error.to_string(heap) {
         Ok(text) if error.use_stderr() => NoRequest::WordFault(text),

@@ -1,0 +1,5 @@
+-- The commands, as `clap` reads them.
+-- the options that give settings
+pub mod Options
+-- the commands
+pub mod Commands

@@ -1,0 +1,16 @@
+//! The commands of the program `koth` with their files and options, as `clap` reads them and as help shows them.
+//!
+//! What they give a command is the crate `koth_words`.
+//!
+//! - `options`: the options that give settings;
+//! - `arguments`: the files, options and flags of commands, one by one;
+//! - `building`: what commands are built of;
+//! - `commands`: the commands.
+#![tactic(auto)]
+
+mod arguments;
+mod building;
+mod commands;
+mod options;
+
+pub use commands::koth_command;

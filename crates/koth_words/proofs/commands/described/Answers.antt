@@ -1,6 +1,0 @@
--- A text of help changes no word.
-use Rattle.koth_words.proofs.Build.{changed}
-use Rattle.koth_words.proofs.commands.described.Goals as goal
-
-pub returns : goal.returns
-returns c = changed _ c.about.ensures c.new.ensures.app c.new.ensures.local

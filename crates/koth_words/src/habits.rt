@@ -1,0 +1,33 @@
+//! Options of pMARS that authors type by habit.
+
+/// What stands for an option of pMARS that `koth` doesn't have, if one of these words is such an option.
+pub(crate) fn habit_among(words: &[String]) -> Option<&'static str> {
+    for word in words {
+        if let Some(instead) = instead_of(word.as_str()) {
+            return Some(instead);
+        }
+    }
+    None
+}
+
+fn instead_of(word: &str) -> Option<&'static str> {
+    if word.starts_with("-b") {
+        Some("there is no '-b': 'fight' lists no warriors; 'asm' does")
+    } else if word.starts_with("-k") {
+        Some("there is no '-k': into a pipe, or with '--plain', 'fight' writes the numbers alone")
+    } else if word.starts_with("-F") {
+        Some(
+            "there is no '-F': positions are drawn from '--seed <NUMBER>', which is the number of '-F' less the distance",
+        )
+    } else if word.starts_with("-f") {
+        Some(
+            "there is no '-f': positions are drawn from '--seed <NUMBER>', so each match can be played again",
+        )
+    } else if word.starts_with("-@") {
+        Some(
+            "there is no '-@': give options, or take settings by '--preset <NAME>' or '--like <FILE>'",
+        )
+    } else {
+        None
+    }
+}
