@@ -1,0 +1,4 @@
+mod Mended
+mod Lines
+mod ReadsBack
+mod Rows

@@ -1,0 +1,16 @@
+-- A string of JSON for any bytes.
+pub mod Strings
+-- The names of fields.
+pub mod Keys
+-- An object of JSON on one line.
+pub mod Objects
+-- The lines of `fight`.
+pub mod Contest
+-- The lines of `show`.
+pub mod Hill
+-- The lines of `submit`, `try` and `audit`.
+pub mod Reply
+-- The lines of `check`, and of a source that is refused.
+pub mod Finding
+
+-- The line of a command that was not carried out.

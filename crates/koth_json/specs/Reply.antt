@@ -1,0 +1,45 @@
+-- The lines of `submit`, `try` and `audit`.
+use Rattle.std.specs.Prelude.{ℕ, true, false, List, [], ◌∷◌, ◌++◌, Option, None, Some, codes}
+use Rattle.{koth_match.specs.declared.bout.Bout.Bout, koth_hill.specs.declared.untrue.Untrue.Untrue}
+use Rattle.koth_json.specs.{declared.key.Key.Key, Objects.{Field, Value, object_line, type_field}}
+
+-- a warrior that is on the hill now
+abbrev pub placed_line : ℕ → ℕ → ℕ → List ℕ
+placed_line entry rank points =
+    object_line (type_field (codes "placed"))
+    ((Key.Entry, Value.number entry) ∷ (Key.Rank, Value.number rank) ∷ (Key.Points, Value.number points) ∷ [])
+
+-- a warrior that fell at once
+abbrev pub fell_line : ℕ → ℕ → List ℕ
+fell_line entry points = object_line (type_field (codes "fell")) ((Key.Entry, Value.number entry) ∷ (Key.Points, Value.number points) ∷ [])
+
+-- the lowest points of those that stay
+abbrev pub least_line : ℕ → List ℕ
+least_line points = object_line (type_field (codes "least")) ((Key.Points, Value.number points) ∷ [])
+
+-- a hill that has judged as many warriors as can be counted
+abbrev pub worn_line : List ℕ
+worn_line = object_line (type_field (codes "worn")) []
+
+-- what the hill keeps of a pair, and what its match gives: from the older's side
+abbrev pub kept_fields : Bout → List Field
+kept_fields b =
+    (Key.KeptWon, Value.number b.older_wins) ∷ (Key.KeptLost, Value.number b.younger_wins) ∷ (Key.KeptTied, Value.number b.ties) ∷ []
+
+abbrev pub fought_fields : Bout → List Field
+fought_fields b =
+    (Key.FoughtWon, Value.number b.older_wins) ∷ (Key.FoughtLost, Value.number b.younger_wins) ∷ (Key.FoughtTied, Value.number b.ties) ∷ []
+
+-- a result that isn't its match's
+abbrev pub untrue_line : Untrue → List ℕ
+untrue_line u =
+    object_line (type_field (codes "audit")) (
+    (Key.Holds, Value.truth false)
+    ∷ (Key.Older, Value.number u.older)
+    ∷ (Key.Younger, Value.number u.younger)
+    ∷ kept_fields u.kept ++ fought_fields u.fought)
+
+-- an audit that found this
+abbrev pub audit_line : Option Untrue → List ℕ
+audit_line None = object_line (type_field (codes "audit")) ((Key.Holds, Value.truth true) ∷ [])
+audit_line (Some untrue) = untrue_line untrue
