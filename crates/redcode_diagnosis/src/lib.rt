@@ -1,20 +1,18 @@
-//! Refusals of a source for people and editors: where in the line the fault is, what is wrong, and what was probably meant.
+//! Refusals and warnings of a source for people: where in the line the fault is, what is wrong, and what was probably meant.
 //!
 //! `diagnosis` has the refusals of a source, each with its place and its sentence, which are `redcode_blame`'s. `text` writes a refusal
-//! for people, `json` for editors.
+//! or one of `redcode_warnings`' warnings.
 //!
 //! The main clauses: `diagnose` answers no refusal if `assembly` gives a warrior, and else the assembler's first. Each place lies within
-//! its line (`IsPlaceIn`). `text_of` and `json_of` begin with what and where the fault is (`Text` in `specs`).
+//! its line (`IsPlaceIn`). `text_of` and `warning_text_of` begin with what and where the fault is (`Text` in `specs`).
 //!
 //! Nothing here changes what is refused.
 #![tactic(auto)]
 
 mod diagnosis;
-mod json;
 mod text;
 
 pub use diagnosis::{Diagnosis, diagnose};
-pub use json::json_of;
 pub use redcode_blame::Copied;
 pub use redcode_lines::line_text;
-pub use text::text_of;
+pub use text::{text_of, warning_text_of};

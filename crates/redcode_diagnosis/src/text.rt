@@ -1,15 +1,14 @@
-//! A refusal as text for people.
+//! Refusals and warnings as text for people.
 
 ghost use Rattle.std.specs.Prelude.{◌≡◌, ◌++◌, IfOk, OnOk};
-ghost use Rattle.redcode_diagnosis.specs.Text.{Begins, heading, shown_line};
+ghost use Rattle.redcode_diagnosis.specs.Text.{Begins, heading, numbered, said_heading, shown_line, warning_heading};
 
 use crate::diagnosis::Diagnosis;
-use crate::json::append_numbered;
 use itoa::Buffer;
 use redcode_blame::{Copied, Part, append_shown, say};
 use redcode_lines::{Span, line_text, part_of};
+use redcode_warnings::Warning;
 use std::alloc::{AllocError, Allocator};
-use war_types::AsmFault;
 
 /// Places for the number of a line.
 const NUMBER_PLACES: usize = 5;
@@ -25,38 +24,77 @@ pub fn text_of<A: Allocator + Copy>(
 ) -> Result<Vec<u8, A>, AllocError>
     ensures { IfOk result (λ text. Begins (heading path.now diagnosis.now.fault diagnosis.now.column) text.items) }
 {
-    let rest = behind_heading(alloc, source, diagnosis)?;
-    headed(alloc, path, diagnosis, rest.as_slice())
+    let said = Said {
+        line: diagnosis.fault.line,
+        column: diagnosis.column,
+        width: diagnosis.width,
+        severity: "",
+        kind: diagnosis.fault.kind.name(),
+    };
+    let mut rest = lines_of(alloc, source, &said, diagnosis.sentence.as_slice())?;
+    if let Some(copy) = &diagnosis.copy {
+        append_copy(&mut rest, copy)?;
+    }
+    headed(alloc, path, &said, rest.as_slice())
+}
+
+/// A warning of a source as text, as a refusal, but for `warning: ` before its kind. It fails when memory runs out.
+pub fn warning_text_of<A: Allocator + Copy>(
+    alloc: A,
+    path: &[u8],
+    source: &[u8],
+    warning: &Warning<A>,
+) -> Result<Vec<u8, A>, AllocError>
+    ensures { IfOk result (λ text. Begins (warning_heading path.now warning.now.kind warning.now.line warning.now.column) text.items) }
+{
+    let said = Said {
+        line: warning.line,
+        column: warning.column,
+        width: warning.width,
+        severity: "warning: ",
+        kind: warning.kind.name(),
+    };
+    let rest = lines_of(alloc, source, &said, warning.sentence.as_slice())?;
+    headed(alloc, path, &said, rest.as_slice())
+}
+
+/// What is said of a source, and where.
+#[derive(Clone, Copy)]
+struct Said {
+    /// The line of the source, counted from 1, or 0 if none is to blame.
+    line: u32,
+    column: u32,
+    width: u32,
+    /// What stands before the kind.
+    severity: &'static str,
+    kind: &'static str,
 }
 
 /// A text after the path and what stands between the path and the sentence.
 fn headed<A: Allocator>(
     alloc: A,
     path: &[u8],
-    diagnosis: &Diagnosis<A>,
+    said: &Said,
     rest: &[u8],
 ) -> Result<Vec<u8, A>, AllocError>
-    ensures { IfOk result (λ text. text.items ≡ heading path.now diagnosis.now.fault diagnosis.now.column ++ rest.now) }
+    ensures { IfOk result (λ text. text.items ≡ said_heading path.now said.now.line said.now.column said.now.severity.now said.now.kind.now ++ rest.now) }
 {
     let mut text = Vec::from_slice(alloc, path)?;
-    append_heading(&mut text, diagnosis.fault, diagnosis.column)?;
+    append_heading(&mut text, said)?;
     text.extend_from_slice(rest)?;
     Ok(text)
 }
 
 /// Appends what stands between the path and the sentence.
-#[tactic(auto, unfolding(crate::specs::Text::heading))]
-fn append_heading<A: Allocator>(
-    text: &mut Vec<u8, A>,
-    fault: AsmFault,
-    column: u32,
-) -> Result<(), AllocError>
-    ensures { OnOk result (text.new.items ≡ heading text.old.items fault column) }
+#[tactic(auto, unfolding(crate::specs::Text::said_heading))]
+fn append_heading<A: Allocator>(text: &mut Vec<u8, A>, said: &Said) -> Result<(), AllocError>
+    ensures { OnOk result (text.new.items ≡ said_heading text.old.items said.now.line said.now.column said.now.severity.now said.now.kind.now) }
 {
-    append_numbered(text, b":", shown_line(fault.line))?;
-    append_numbered(text, b":", column)?;
+    append_numbered(text, b":", shown_line(said.line))?;
+    append_numbered(text, b":", said.column)?;
     text.extend_from_slice(b": ")?;
-    text.extend_from_slice(fault.kind.name().as_bytes())?;
+    text.extend_from_slice(said.severity.as_bytes())?;
+    text.extend_from_slice(said.kind.as_bytes())?;
     text.extend_from_slice(b": ")
 }
 
@@ -67,48 +105,36 @@ fn shown_line(line: u32) -> u32
     if line == 0 { 1 } else { line }
 }
 
-/// The sentence, and the lines under it.
-fn behind_heading<A: Allocator + Copy>(
+/// The sentence, and the line under it.
+fn lines_of<A: Allocator>(
     alloc: A,
     source: &[u8],
-    diagnosis: &Diagnosis<A>,
+    said: &Said,
+    sentence: &[u8],
 ) -> Result<Vec<u8, A>, AllocError> {
-    let mut text = Vec::from_slice(alloc, diagnosis.sentence.as_slice())?;
-    append_lines(&mut text, source, diagnosis)?;
-    Ok(text)
-}
-
-/// Appends the end of the sentence's line, and the lines under it.
-fn append_lines<A: Allocator>(
-    text: &mut Vec<u8, A>,
-    source: &[u8],
-    diagnosis: &Diagnosis<A>,
-) -> Result<(), AllocError> {
+    let mut text = Vec::from_slice(alloc, sentence)?;
     text.push(b'\n')?;
-    if diagnosis.fault.line != 0 {
-        append_line(text, line_text(source, diagnosis.fault.line), diagnosis)?;
+    if said.line != 0 {
+        append_line(&mut text, line_text(source, said.line), said)?;
     }
-    match &diagnosis.copy {
-        Some(copy) => append_copy(text, copy),
-        None => Ok(()),
-    }
+    Ok(text)
 }
 
 /// Appends a line with its number, and the carets under it.
 fn append_line<A: Allocator>(
     text: &mut Vec<u8, A>,
     line: &[u8],
-    diagnosis: &Diagnosis<A>,
+    said: &Said,
 ) -> Result<(), AllocError> {
-    append_number(text, diagnosis.fault.line)?;
+    append_number(text, said.line)?;
     append_shown(text, line)?;
     text.extend_from_slice(b"\n      | ")?;
-    let from = diagnosis.column.saturating_sub(1);
+    let from = said.column.saturating_sub(1);
     let before = Span {
         from: 0,
         width: from,
     };
-    let width = diagnosis.width;
+    let width = said.width;
     append_blanks(text, part_of(line, before))?;
     append_carets(text, part_of(line, Span { from, width }))?;
     text.extend_from_slice(b"\n")
@@ -185,4 +211,16 @@ fn append_copy<A: Allocator, B: Allocator>(
         Part::Text("\n"),
     ];
     say(text, &parts)
+}
+
+/// Appends a text, and a number after it.
+fn append_numbered<A: Allocator>(
+    text: &mut Vec<u8, A>,
+    name: &[u8],
+    number: u32,
+) -> Result<(), AllocError>
+    ensures { OnOk result (text.new.items ≡ text.old.items ++ numbered name.now number) }
+{
+    text.extend_from_slice(name)?;
+    text.extend_from_slice(Buffer::new().format(number).as_bytes())
 }

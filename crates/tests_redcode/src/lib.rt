@@ -1,4 +1,4 @@
-//! Tests of the public calls of `redcode_text`, `redcode_expand`, `redcode_asm` and `redcode_diagnosis`: of what no clause of them says.
+//! Tests of the public calls of `redcode_text`, `redcode_expand`, `redcode_asm`, `redcode_warnings` and `redcode_diagnosis`: of what no clause of them says.
 //!
 //! No crate stands on this one, so a check of the crates above waits for none of these tests. A module a subject:
 //!
@@ -12,6 +12,7 @@
 //! - `long_tests`: sources that are long once they are written out, on both sides of what an assembly may take;
 //! - `growths`: calls that are refused memory, and those that need none;
 //! - `diagnoses`: what people are told of sources that are refused;
+//! - `warnings`: what people are told of sources that may assemble;
 //! - `expecting`: how the tests compare.
 //!
 //! What a contract says is proved there and not tried here.
@@ -39,3 +40,5 @@ mod refused_expansions;
 mod sources;
 #[cfg(test)]
 mod tokens;
+#[cfg(test)]
+mod warnings;

@@ -1,32 +1,10 @@
-//! The text and the JSON of refusals, and sources with several faults.
+//! The text of refusals, and sources with several faults.
 
 use crate::diagnoses::refusals;
 use crate::expecting::expect_same;
-use redcode_diagnosis::{Diagnosis, json_of, text_of};
-use std::alloc::Global;
+use redcode_diagnosis::text_of;
 use std::process::Abort;
 use tests_fixtures::rows;
-
-/// How refusals are written.
-#[derive(Clone, Copy)]
-enum Form {
-    Text,
-    Json,
-}
-
-/// A refusal in this form.
-fn written(
-    rt: &(impl Abort + AllocGlobal),
-    source: &[u8],
-    told: &Diagnosis<Global>,
-    form: Form,
-) -> Vec<u8> {
-    match form {
-        Form::Text => text_of(rt.alloc(), b"a.red", source, told),
-        Form::Json => json_of(rt.alloc(), b"a.red", source, told),
-    }
-    .expect(rt, "there is memory")
-}
 
 /// Appends a text, which is dropped.
 fn append(rt: &impl Abort, all: &mut Vec<u8>, text: Vec<u8>) {
@@ -35,20 +13,21 @@ fn append(rt: &impl Abort, all: &mut Vec<u8>, text: Vec<u8>) {
     drop(text);
 }
 
-/// The refusals of a source in this form.
-fn all_written(rt: &(impl Abort + AllocGlobal), source: &[u8], form: Form) -> Vec<u8> {
+/// The refusals of a source as text.
+fn all_written(rt: &(impl Abort + AllocGlobal), source: &[u8]) -> Vec<u8> {
     let mut all = Vec::new(rt.alloc());
     let refusals = refusals(rt, source);
     for told in &refusals {
-        append(rt, &mut all, written(rt, source, told, form));
+        let text = text_of(rt.alloc(), b"a.red", source, told).expect(rt, "there is memory");
+        append(rt, &mut all, text);
     }
     drop(refusals);
     all
 }
 
 /// The refusals of a source are written so.
-fn check_written(rt: &(impl Abort + AllocGlobal), source: &[u8], form: Form, want: &[u8]) {
-    let found = all_written(rt, source, form);
+fn check_written(rt: &(impl Abort + AllocGlobal), source: &[u8], want: &[u8]) {
+    let found = all_written(rt, source);
     expect_same(rt, &found.as_slice(), &want, format_args!("{source:?}"));
     drop(found);
 }
@@ -72,25 +51,7 @@ const TEXTS: [(&[u8], &[u8]); 7] = rows! {
 #[test]
 fn texts_of_refusals(rt: HostRuntime) {
     for (source, want) in &TEXTS {
-        check_written(&rt, source, Form::Text, want);
-    }
-}
-
-/// Sources, with the JSON of their refusals.
-const OBJECTS: [(&[u8], &[u8]); 3] = rows! {
-    b"DAT x ; \"\\\"\n"
-        => br#"{"file":"a.red","line":1,"column":5,"width":1,"kind":"UnknownName","message":"nothing is called `x`","text":"DAT x ; \"\\\""}
-"#;
-    b"\tDAT x ; \xc3\xa4 \xff"
-        => b"{\"file\":\"a.red\",\"line\":1,\"column\":6,\"width\":1,\"kind\":\"UnknownName\",\"message\":\"nothing is called `x`\",\"text\":\"\\u0009DAT x ; \xc3\xa4 \xef\xbf\xbd\"}\n";
-    b"i FOR 1\nDAT 1/0\nROF"
-        => b"{\"file\":\"a.red\",\"line\":2,\"column\":5,\"width\":3,\"kind\":\"DivideByZero\",\"message\":\"a division by zero\",\"text\":\"DAT 1/0\",\"copy\":1,\"block\":1,\"reads\":\"DAT 1 / 0\"}\n";
-};
-
-#[test]
-fn json_of_refusals(rt: HostRuntime) {
-    for (source, want) in &OBJECTS {
-        check_written(&rt, source, Form::Json, want);
+        check_written(&rt, source, want);
     }
 }
 
