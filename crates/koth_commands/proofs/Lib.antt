@@ -1,6 +1,6 @@
-mod Checked
+pub mod Checks
 mod Ends
-mod Fought
 mod Parts
+mod Reports
 mod Sources
 pub mod Told

@@ -36,6 +36,7 @@ reason_text Reason.Folder = codes "it is a folder"
 reason_text Reason.ReadOnly = codes "the file system is read-only"
 reason_text Reason.Circle = codes "its links go in a circle"
 reason_text Reason.LongName = codes "the name is too long"
+reason_text Reason.NoText = codes "its name is not UTF-8"
 reason_text Reason.Full = codes "the disk is full"
 reason_text Reason.Size = codes "the file would be too large"
 reason_text Reason.NoFile = codes "it is no plain file"
@@ -60,22 +61,12 @@ reason_text Reason.Device = codes "reading or writing it failed"
 reason_text Reason.Memory = codes "memory ran out"
 reason_text Reason.Other = codes "the system reports an error"
 
--- what a source is called that comes from there
-abbrev pub source_name : Subject → List ℕ
-source_name (Subject.File path) = path.now
-source_name (Subject.Warrior path entry) = path.now
-source_name (Subject.Port port) = codes "a peer"
-source_name Subject.Connection = codes "a peer"
-source_name Subject.Input = codes "standard input"
-source_name Subject.Output = codes "standard output"
-
 -- what a command worked on, as messages have it
 abbrev pub subject_name : Subject → List ℕ
 subject_name (Subject.File path) = shown_name path.now
 subject_name (Subject.Warrior path entry) = shown_name path.now ++ (codes ", warrior " ++ decimal entry)
 subject_name (Subject.Port port) = codes "port " ++ decimal port
 subject_name Subject.Connection = codes "a connection"
-subject_name Subject.Input = codes "standard input"
 subject_name Subject.Output = codes "standard output"
 
 -- the line of a subject with this name, and why it failed

@@ -1,50 +1,84 @@
 -- What the command `check` writes, and how it ends.
-use Rattle.std.specs.{Prelude.{◌≡◌, ◌⊎◌, ℕ, Bool, true, false, if◌then◌else◌, Option, List, length, All, Result, Ok, Err}, Io.KnownBytes.Keeps}
-use Rattle.war_types.specs.{Warrior.WarriorParts, declared.fault.AsmFault.AsmFault, declared.settings.RawSettings.RawSettings, declared.settings.SettingsFault.SettingsFault}
-use Rattle.{redcode_asm.specs.{Assembly.assembly, Within.MaySpend}, koth_words.specs.declared.serving.TheConstants.STEPS, koth_commands.specs.{Answer.EndsGiven, Failure.failure_word, Pair.IsFaultOf, Streams.Streams, Told.{TellsWord, WritesSome}}}
-use Rattle.koth_commands.specs.{declared.status.Status.Status, declared.failure.Failure.Failure}
+use Rattle.std.specs.{Prelude.{◌≡◌, ◌⊎◌, ℕ, Bool, true, false, Option, None, Some, List, [], ◌++◌, take, map, All, Result}, List.{flat_map, list_any}, Io.KnownBytes.{Appends, Keeps}}
+use Rattle.{war_types.specs.{declared.settings.RawSettings.RawSettings, declared.settings.SettingsFault.SettingsFault}, redcode_diagnosis.specs.Text.Begins, koth_text.specs.Written.WritesPart}
+use Rattle.koth_commands.specs.{Answer.{AnswerParts, EndsGiven}, Report.{Manner, IsAnswered, IsNoteOf, IsReport, is_refused, status_by}, Streams.{From, Streams, Takes, source_name}, Told.{TellsWord, apart_text}, Trouble.fault_word}
+use Rattle.koth_commands.specs.declared.{status.Status.Status, telling.Apart.Apart, trouble.Fault.Fault}
+use Rattle.koth_words.specs.declared.requests.Checked.{Checked}
 
--- the source assembles to a warrior
-abbrev pub IsTaken : RawSettings → List ℕ → Type 0
-IsTaken s source = (warrior : WarriorParts) × (assembly s source ≡ Ok warrior)
+-- ---- one source
 
--- this source is refused, and something is written, or it assembles, and nothing is
-abbrev pub Finds : RawSettings → List ℕ → Bool → Option (List ℕ) → Option (List ℕ) → Type 0
-Finds s source true old new = ((fault : AsmFault) × (assembly s source ≡ Err fault)) × WritesSome old new
-Finds s source false old new = IsTaken s source × Keeps old new
+-- a source was taken from the input or else from a file, and this is the answer to it
+pub record IsChecked (s : RawSettings) (how : Manner) (name : List ℕ) (of_input : Bool) (before after : Option (List ℕ)) (answer : AnswerParts) : Type 0 where
+  pub source : List ℕ
+  pub taken : From of_input (λ old new. Takes old new source) before after
+  pub answers : IsAnswered s how name source answer
 
--- the same of some source
-abbrev pub Checks : RawSettings → Bool → Option (List ℕ) → Option (List ℕ) → Type 0
-Checks s is_refused old new = (source : List ℕ) × Finds s source is_refused old new
+-- whether no further source is checked: after a lack of memory, and if the output failed at the report of a source that was read
+abbrev pub is_over : Bool → Status → Bool
+is_over is_read Status.StreamFault = is_read
+is_over is_read Status.NoMemory = true
+is_over is_read _ = false
 
--- how it ends after one file more
-abbrev pub status_behind : Status → Bool → Status
-status_behind status is_refused = if is_refused then Status.Refused else status
+-- ---- sources, one after the other
 
--- `count` sources assemble
-pub record AreTaken (s : RawSettings) (count : ℕ) : Type 0 where
-  pub sources : List (List ℕ)
-  pub taken : All (IsTaken s) sources
-  pub all : length sources ≡ count
+-- whether a source could not be read
+abbrev pub is_unread : Option (List ℕ) → Bool
+is_unread None = true
+is_unread (Some source) = false
 
--- nothing was written, or a source was read of which an assembly may spend what a service gives it by default, and that is told
-abbrev pub Warns : Option (List ℕ) → Option (List ℕ) → Type 0
-Warns old new = Keeps old new ⊎ (((source : List ℕ) × MaySpend STEPS source) × WritesSome old new)
+-- one of them: what messages call it, its text if that could be read, and what was written of it on the output and on standard error
+pub record Part : Type 0 where
+  pub name : List ℕ
+  pub source : Option (List ℕ)
+  pub text : List ℕ
+  pub told : List ℕ
 
--- and a word after that
-abbrev pub WarnsAndTells : List ℕ → Option (List ℕ) → Option (List ℕ) → Type 0
-WarnsAndTells word old new = (mid : Option (List ℕ)) × Warns old mid × TellsWord word mid new
+-- the report and the note, or as much of the note as standard error took; the word of a failed stream and what follows it, if it isn't read
+abbrev pub IsPartBy : RawSettings → Manner → List ℕ → Option (List ℕ) → List ℕ → List ℕ → Type 0
+IsPartBy s how name (Some source) text told = IsReport s how name source text × ((note : List ℕ) × IsNoteOf source note × Begins told note)
+IsPartBy s how name None text told = (text ≡ [])
+    × ((apart : Apart) × (more : List ℕ) × Begins told (fault_word Fault.Stream ++ (apart_text apart ++ more)))
 
--- how `check` of `count` files ends, by what the output and then standard error hold before and after. It writes nothing on the output if the
--- source in each file assembles. It writes something and ends as refused if one doesn't. Or a file or a stream failed, or memory ran out
-abbrev pub EndsCheckUnder : RawSettings → ℕ → Status → Option (List ℕ) → Option (List ℕ) → Option (List ℕ) → Option (List ℕ) → Type 0
-EndsCheckUnder s count Status.Done o p e f = AreTaken s count × Keeps o p × Warns e f
-EndsCheckUnder s count Status.Refused o p e f = ((fault : AsmFault) × IsFaultOf s fault) × WritesSome o p × Warns e f
-EndsCheckUnder s count Status.WordFault o p e f = ⊥
-EndsCheckUnder s count Status.StreamFault o p e f = WritesSome o p × WarnsAndTells (failure_word Failure.Stream) e f
-EndsCheckUnder s count Status.NoMemory o p e f = WritesSome o p × WarnsAndTells (failure_word Failure.Memory) e f
+abbrev pub IsPart : RawSettings → Manner → Part → Type 0
+IsPart s how part = IsPartBy s how part.name part.source part.text part.told
+
+-- 3 if one can't be read, else 1 if one is refused, and else 0
+abbrev pub status_over : RawSettings → Manner → List Part → Status
+status_over s how parts = status_by (list_any (λ part. is_unread part.source) parts) (list_any (λ part. is_refused s how part.source) parts)
+
+-- the sources that are called so were checked
+pub record Checks (s : RawSettings) (how : Manner) (names : List (List ℕ)) (status : Status) (o p e f : Option (List ℕ)) : Type 0 where
+  pub parts : List Part
+  pub named : map (λ part. part.name) parts ≡ names
+  pub each : All (IsPart s how) parts
+  pub ends : status ≡ status_over s how parts
+  pub written : Appends o p (flat_map (λ part. part.text) parts)
+  pub told : Appends e f (flat_map (λ part. part.told) parts)
+
+-- the output failed at the report of a source, or memory ran out
+abbrev pub Breaks : RawSettings → Manner → Status → Option (List ℕ) → Option (List ℕ) → Option (List ℕ) → Option (List ℕ) → Type 0
+Breaks s how status o p e f =
+    ((status ≡ Status.StreamFault) × ((name : List ℕ) × (source : List ℕ) × (text : List ℕ) × IsReport s how name source text × WritesPart o p text) × TellsWord (fault_word Fault.Stream) e f)
+    ⊎ ((status ≡ Status.NoMemory) × Keeps o p × TellsWord (fault_word Fault.Memory) e f)
+
+-- so many first ones were checked, and that happened at the next
+pub record Stops (s : RawSettings) (how : Manner) (names : List (List ℕ)) (status : Status) (o p e f : Option (List ℕ)) : Type 0 where
+  pub count : ℕ
+  pub begun : Status
+  pub written : Option (List ℕ)
+  pub told : Option (List ℕ)
+  pub checked : Checks s how (take count names) begun o written e told
+  pub breaks : Breaks s how status written p told f
+
+-- how `check` ends under settings, by what the output and then standard error hold before and after: with a report of each source in their order
+abbrev pub EndsCheckUnder : RawSettings → Manner → List (List ℕ) → Status → Option (List ℕ) → Option (List ℕ) → Option (List ℕ) → Option (List ℕ) → Type 0
+EndsCheckUnder s how names status o p e f = Checks s how names status o p e f ⊎ Stops s how names status o p e f
+
+-- what messages call its sources
+abbrev pub names_of : Checked → List (List ℕ)
+names_of checked = map source_name checked.files.items
 
 -- how `check` ends: as under the settings that are given, with their refusal, or out of memory
-abbrev pub EndsCheck : ℕ → Result RawSettings SettingsFault → Status → Streams → Streams → Type 0
-EndsCheck count settings status before after =
-    EndsGiven (λ s end u v. EndsCheckUnder s count end u.output v.output u.errors v.errors) settings status before after
+abbrev pub EndsCheck : Manner → List (List ℕ) → Result RawSettings SettingsFault → Status → Streams → Streams → Type 0
+EndsCheck how names settings status before after =
+    EndsGiven (λ s end u v. EndsCheckUnder s how names end u.output v.output u.errors v.errors) settings status before after

@@ -4,13 +4,11 @@ pub mod Status
 pub mod Name
 pub mod Cause
 pub mod Told
-pub mod Failure
 pub mod Trouble
 pub mod Answer
--- Two warriors, and how a command of their match ends.
+-- What sources assemble to.
 pub mod Pair
--- What each command writes and how it ends: `asm`, `fight`, `replay` and `check`.
+-- What each command writes and how it ends: `asm` and `check`.
 pub mod Asm
-pub mod Fight
-pub mod Replay
+pub mod Report
 pub mod Check

@@ -1,6 +1,6 @@
 -- What a command takes from its input, and its three streams.
 use Rattle.std.specs.{Prelude.{ℕ, ◌<◌, ◌≤◌, Bool, true, false, Option, None, List, length}, Io.KnownBytes.{Consumes, IsAtEnd, Keeps}}
-use Rattle.koth_commands.specs.declared.words.Source.{Source}
+use Rattle.koth_words.specs.declared.requests.Source.{Source}
 
 -- bytes of a source that are read: one more than a source may have
 abbrev pub read_limit : ℕ

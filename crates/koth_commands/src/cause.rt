@@ -1,7 +1,7 @@
 //! What failed, and why, as people are told it.
 
 ghost use Rattle.std.specs.Prelude.{◌≡◌, ◌++◌, codes, decimal, IfOk, OnOk};
-ghost use Rattle.koth_commands.specs.{Cause.{cause_told, error_reason, reason_text, reason_told, source_name, subject_name}, Name.shown_name};
+ghost use Rattle.koth_commands.specs.{Cause.{cause_told, error_reason, reason_text, reason_told, subject_name}, Name.shown_name};
 
 use crate::name::put_name;
 use koth_text::put_number;
@@ -25,6 +25,8 @@ pub enum Reason {
     Circle,
     /// The name is too long.
     LongName,
+    /// The name of the file is no text.
+    NoText,
     /// The disk is full.
     Full,
     /// The file would be too large, or is too short.
@@ -86,6 +88,7 @@ impl Reason {
             Reason::ReadOnly => "the file system is read-only",
             Reason::Circle => "its links go in a circle",
             Reason::LongName => "the name is too long",
+            Reason::NoText => "its name is not UTF-8",
             Reason::Full => "the disk is full",
             Reason::Size => "the file would be too large",
             Reason::NoFile => "it is no plain file",
@@ -160,24 +163,8 @@ pub enum Subject<'s> {
     Port(u16),
     /// A connection to a peer.
     Connection,
-    /// Standard input.
-    Input,
     /// Standard output.
     Output,
-}
-
-impl<'s> Subject<'s> {
-    /// What diagnostics call a source that comes from it.
-    pub(crate) fn name(self) -> &'s str
-        ensures { result.now ≡ source_name self.entry }
-    {
-        match self {
-            Subject::File(path) | Subject::Warrior(path, _) => path,
-            Subject::Port(_) | Subject::Connection => "a peer",
-            Subject::Input => "standard input",
-            Subject::Output => "standard output",
-        }
-    }
 }
 
 /// What failed, and why.
@@ -228,7 +215,6 @@ fn put_subject<A: Allocator>(text: &mut Vec<u8, A>, subject: Subject<'_>) -> Res
         Subject::Warrior(path, entry) => put_warrior(text, path, entry),
         Subject::Port(port) => put_port(text, port),
         Subject::Connection => text.extend_from_slice(b"a connection"),
-        Subject::Input => text.extend_from_slice(b"standard input"),
         Subject::Output => text.extend_from_slice(b"standard output"),
     }
 }

@@ -1,18 +1,15 @@
-//! The commands that need no hill, `asm`, `check`, `fight` and `replay`, and the statuses and reports of all commands.
+//! The commands on sources alone, `asm` and `check`, and what all commands share: their answers, troubles and statuses.
 //!
-//! It stands on the assembler, on the match and on the page of a round, and knows no store, device, session or socket. The modules, in
-//! the order in which the data pass:
+//! It stands on the assembler, and knows no match, store, device, session or socket. The modules, in the order in which the data pass:
 //!
-//! - `stream` and `source`: an input that is read up to a limit, an output that is written whole, and a source in a file;
-//! - `pair`: the warriors from two files, and the answer if there are none;
-//! - `asm`, `check`, `fight`, `replay`: a command each;
-//! - `answer`: the answer to a source; `settings`: the report of settings that are refused;
-//! - `name`: the name of a file as messages have it;
-//! - `failure`, `status`: the report of a failed stream or of a lack of memory, and how the program ends.
+//! - `stream` and `source`: an input that is read up to a limit, an output that is written whole, and the text of a source;
+//! - `asm`, `check`: a command each; `report`: what `check` says of a source;
+//! - `answer`: what a command answers, and its delivery; `trouble`: why one was not carried out, and `settings` and `cause` what that was about;
+//! - `name`: the name of a file as messages have it; `telling`: a word on standard error; `status`: how the program ends.
 //!
-//! Each says what is written and how the program ends as a function of the settings and of what was read (`EndsAsm`, `EndsFight`,
-//! `EndsReplay`, `EndsCheck`). That is exactly the load text, the counts, the page or the refusal of the source. If a stream failed it is
-//! a part of it, and then the failure's line on standard error. Settings are checked before anything is read.
+//! A command performs what it is asked for, which gives an `Answer` or a `Trouble`, and `deliver` alone writes that. Each says what was done
+//! as a function of the settings and of what was read, and how it ends as the delivery of that (`EndsAsmFrom`, `EndsCheck`). Settings are
+//! checked before anything is read.
 #![tactic(auto)]
 
 mod answer;
@@ -20,27 +17,22 @@ pub mod asm;
 mod cause;
 pub mod check;
 mod explanation;
-mod failure;
-pub mod fight;
 mod name;
-mod pair;
-pub mod replay;
+mod report;
 mod settings;
 mod source;
 mod status;
 mod stream;
 mod telling;
 pub mod trouble;
-mod words;
 
-pub use answer::{Answer, RefusedSource, deliver, write_answer, write_refusal};
+pub use answer::{Answer, RefusedSource, deliver, refusal, refused_text};
 pub use cause::{Cause, Reason, Subject, reason_of};
 pub use explanation::{explain, explanation_of};
-pub use failure::{Failure, Trouble};
+pub use name::put_name;
 pub use settings::refuse_settings;
-pub use source::{read_source, source_name, source_text};
+pub use source::{source_name, source_text};
 pub use status::Status;
-pub use stream::{StreamFault, write_whole};
-pub use telling::{Apart, tell_text, tell_word, write_both};
-pub use trouble::{About, Fault};
-pub use words::Source;
+pub use stream::{StreamFault, fill, write_whole};
+pub use telling::tell_word;
+pub use trouble::{About, Fault, Trouble};

@@ -2,8 +2,10 @@
 
 ghost use Rattle.std.specs.{Prelude.{◌≡◌, ◌++◌, IfOk, OnOk}, Char.encode_utf8};
 ghost use Rattle.koth_commands.specs.Name.{control_shown, hex_digit, shown_character, shown_name};
+ghost use Rattle.redcode_diagnosis.specs.Text.{Begins, heading, warning_heading};
 
-use redcode_diagnosis::{Diagnosis, text_of};
+use redcode_diagnosis::{Diagnosis, text_of, warning_text_of};
+use redcode_warnings::Warning;
 use std::alloc::{AllocError, Allocator};
 
 /// What is said of a refusal in the file at this path.
@@ -12,9 +14,24 @@ pub(crate) fn diagnosis_text<A: Allocator + Copy>(
     path: &str,
     source: &[u8],
     diagnosis: &Diagnosis<A>,
-) -> Result<Vec<u8, A>, AllocError> {
+) -> Result<Vec<u8, A>, AllocError>
+    ensures { IfOk result (λ text. Begins (heading (shown_name path.now) diagnosis.now.fault diagnosis.now.column) text.items) }
+{
     let name = name_text(alloc, path)?;
     text_of(alloc, name.as_slice(), source, diagnosis)
+}
+
+/// What is said of a warning of the source in the file at this path.
+pub(crate) fn warning_text<A: Allocator + Copy>(
+    alloc: A,
+    path: &str,
+    source: &[u8],
+    warning: &Warning<A>,
+) -> Result<Vec<u8, A>, AllocError>
+    ensures { IfOk result (λ text. Begins (warning_heading (shown_name path.now) warning.now.kind warning.now.line warning.now.column) text.items) }
+{
+    let name = name_text(alloc, path)?;
+    warning_text_of(alloc, name.as_slice(), source, warning)
 }
 
 /// A name: a control character as `\x` and two digits, and any other as it is.
@@ -26,8 +43,8 @@ pub(crate) fn name_text<A: Allocator>(alloc: A, name: &str) -> Result<Vec<u8, A>
     Ok(text)
 }
 
-/// Puts a name.
-pub(crate) fn put_name<A: Allocator>(text: &mut Vec<u8, A>, name: &str) -> Result<(), AllocError>
+/// Puts a name. The error is lack of memory.
+pub fn put_name<A: Allocator>(text: &mut Vec<u8, A>, name: &str) -> Result<(), AllocError>
     ensures { OnOk result (text.new.items ≡ text.old.items ++ shown_name name.now) }
 {
     for character in name.chars() {

@@ -1,4 +1,4 @@
-//! The report of settings that are refused, and of a round that a match doesn't have.
+//! What is told of settings that are refused, and of a round that a match doesn't have.
 
 ghost use Rattle.std.specs.Prelude.{◌≡◌};
 ghost use Rattle.koth_commands.specs.{Trouble.settings_word, Told.TellsWord};
@@ -23,24 +23,6 @@ pub fn refuse_settings<A: Allocator, E: Write>(
     tell_range(
         settings_word(fault),
         range_text(alloc, given, fault),
-        errors,
-    );
-    Status::Refused
-}
-
-/// Reports a round that a match of `rounds` rounds doesn't have, like settings that are refused. Rounds are counted from 1.
-pub(crate) fn refuse_round<A: Allocator, E: Write>(
-    alloc: A,
-    rounds: u32,
-    round: u32,
-    errors: &mut E,
-) -> Status
-    ensures status { result ≡ Status.Refused }
-    ensures told { TellsWord (settings_word SettingsFault.Rounds) (E.contents errors.old) (E.contents errors.new) }
-{
-    tell_range(
-        settings_word(SettingsFault::Rounds),
-        round_range(alloc, rounds, round),
         errors,
     );
     Status::Refused
@@ -102,6 +84,14 @@ pub(crate) fn range_text<A: Allocator>(
         SettingsFault::Processes => between(alloc, "processes", given.processes, "1 to 65535"),
         SettingsFault::Length => between(alloc, "length", given.length, "1 to 200"),
         SettingsFault::Distance => distance_text(alloc, given),
+        SettingsFault::Rounds if given.rounds == 0 => {
+            between(
+                alloc,
+                "rounds",
+                0,
+                "1 to 1000; koth asm and koth check play none",
+            )
+        }
         SettingsFault::Rounds => between(alloc, "rounds", given.rounds, "1 to 1000"),
         SettingsFault::Seed => between(alloc, "seed", given.seed, "1 to 2147483646"),
         SettingsFault::Capacity => between(alloc, "capacity", given.capacity, "1 to 20"),

@@ -1,28 +1,20 @@
 //! A source that is read from standard input or from a file.
 
-ghost use Rattle.std.specs.{Prelude.{◌≡◌, vec_len, IfOk, IfErr, List, ℕ}, Io.KnownBytes.Consumes};
+ghost use Rattle.std.specs.{Prelude.{◌≡◌, IfOk, IfErr, List, ℕ}, Io.KnownBytes.Consumes};
 ghost use Rattle.koth_commands.specs.{Trouble.IsReadFault, Streams.{From, Takes, is_input, source_name}};
 
-use crate::cause::{Cause, reason_of};
-use crate::failure;
+use crate::cause::reason_of;
 use crate::stream::fill;
 use crate::trouble::Trouble;
-use crate::words::Source;
+use koth_words::Source;
 use redcode_asm::SOURCE_LIMIT;
-use std::alloc::{AllocError, Allocator};
+use std::alloc::Allocator;
 use std::fs;
 use std::io::Read;
 use std::rt::Files;
 
 /// Bytes of a source that are read: one more than a source may have, which shows that it is too long.
 const READ_LIMIT: usize = SOURCE_LIMIT + 1;
-
-/// A buffer for a source: one byte longer than a source may be, which shows that one is too long.
-pub(crate) fn source_buffer<A: Allocator + Copy>(alloc: A) -> Result<Vec<u8, A>, AllocError>
-    ensures { IfOk result (λ zeros. vec_len zeros ≡ 65537) }
-{
-    Vec::from_elem(alloc, 0, READ_LIMIT)
-}
 
 /// What messages call a source.
 pub fn source_name<'w>(source: Source<'w>) -> &'w str
@@ -73,30 +65,5 @@ fn text_from<'w, A: Allocator + Copy, I: Read>(
             Ok(buffer)
         }
         Err(fault) => Err(Trouble::file(name, fault.reason)),
-    }
-}
-
-/// What a file has, up to one byte more than a source may have.
-pub fn read_source<'p, R: Files, A: Allocator + Copy>(
-    rt: &R,
-    alloc: A,
-    path: &'p str,
-) -> Result<Vec<u8, A>, failure::Trouble<'p>> {
-    let Ok(mut buffer) = Vec::from_elem(alloc, 0, READ_LIMIT) else {
-        return Err(failure::Trouble::Memory);
-    };
-    let mut file = match fs::open(rt, path) {
-        Ok(file) => file,
-        Err(error) => return Err(failure::Trouble::Failed(Cause::file(
-            path,
-            reason_of(error.kind()),
-        ))),
-    };
-    match fill(&mut file, buffer.as_mut_slice()) {
-        Ok(count) => {
-            buffer.truncate(count);
-            Ok(buffer)
-        }
-        Err(fault) => Err(failure::Trouble::Failed(Cause::file(path, fault.reason))),
     }
 }

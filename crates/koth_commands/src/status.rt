@@ -18,7 +18,7 @@ pub enum Status {
 }
 
 impl Status {
-    ghost use Rattle.koth_commands.specs.Status.{status_code};
+    ghost use Rattle.koth_commands.specs.Status.{status_code, worse};
 
     /// The number that the program leaves with.
     pub fn code(self) -> u8
@@ -30,6 +30,17 @@ impl Status {
             Status::WordFault => 2,
             Status::StreamFault => 3,
             Status::NoMemory => 4,
+        }
+    }
+
+    /// How two things end together: with the greater number.
+    pub fn worse(self, other: Status) -> Status
+        ensures { result ≡ worse self other }
+    {
+        if self.code() < other.code() {
+            other
+        } else {
+            self
         }
     }
 }

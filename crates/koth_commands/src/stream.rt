@@ -21,7 +21,7 @@ fn fault_of(error: &io::Error) -> StreamFault {
 }
 
 /// Reads until the buffer is full or the input is at its end, and says how many bytes came.
-pub(crate) fn fill<I: Read>(input: &mut I, buffer: &mut [u8]) -> Result<usize, StreamFault>
+pub fn fill<I: Read>(input: &mut I, buffer: &mut [u8]) -> Result<usize, StreamFault>
     ensures within { IfOk result (λ count. count ≤ length buffer.new) }
     ensures taken { IfOk result (λ count.
         Consumes (I.remaining input.old) (I.remaining input.new) (take count buffer.new)) }

@@ -120,6 +120,16 @@ impl<'t> Trouble<'t> {
         }
     }
 
+    /// A round, counted from 1, that a match of `rounds` rounds doesn't have.
+    pub fn round(rounds: u32, round: u32) -> Trouble<'t>
+        ensures { result.fault ≡ Fault.Settings SettingsFault.Rounds }
+    {
+        Trouble {
+            fault: Fault::Settings(SettingsFault::Rounds),
+            about: About::Round { rounds, round },
+        }
+    }
+
     /// Memory ran out.
     pub fn memory() -> Trouble<'t>
         ensures { result ≡ no_memory }

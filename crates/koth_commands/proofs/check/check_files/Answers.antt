@@ -1,25 +1,20 @@
--- One file more.
-use Rattle.{std.proofs.{Common.{inl, rules, length}, KnownBytes.Keeps-refl}, koth_commands.proofs.Checked.{all_checked, failed_check, one_checked, warns_more}}
+-- One source more.
+use Rattle.std.proofs.Common.{ap, sym, ◌∙◌}
+use Rattle.koth_commands.{specs.{Check.is_over, Report.manner_of, Streams.source_name}, proofs.Checks.{next_name, none_checked, one_next, stopped}}
 use Rattle.koth_commands.proofs.check.check_files.Goals as goal
 
-pub returns-in-Err : goal.returns-in-Err
-returns-in-Err g c =
-    let begun = g.E.Write.contents c.args.errors.now in
-    let mid = g.E.Write.contents c.check_file.new.errors in
-    let warned = warns_more begun (g.E.Write.contents c.loop-path.errors) mid c.loop-path.invariant.warned c.check_file.ensures.warned in
-    failed_check c.args.settings.now c.loop-path.path-index c.loop-path.status (g.O.Write.contents c.args.output.now) (g.O.Write.contents c.loop-path.output)
-    (g.O.Write.contents c.check_file.new.output) (length c.args.checked.now.files.items) c.in-Err.trouble c.tell.result begun (g.E.Write.contents c.tell.new.errors)
-    c.loop-path.invariant.found c.in-Err.ensures.part c.tell.ensures.status (mid, warned, c.tell.ensures.told)
+pub loop-source-init : goal.loop-source-init
+loop-source-init g c = none_checked _ _ _ _
 
-pub loop-path-preserved : goal.loop-path-preserved
-loop-path-preserved g c = record {
-  found = one_checked _ _ _ _ _ _ c.in-Ok.is_refused c.status_behind-status.result c.status_behind-status.ensures c.loop-path.invariant.found
-      c.in-Ok.ensures.found;
-  warned = warns_more _ _ _ c.loop-path.invariant.warned c.check_file.ensures.warned;
-}
+pub returns-then-is_over : goal.returns-then-is_over
+returns-then-is_over g c =
+    let over = ap (λ b. is_over b c.deliver-end.result) (sym c.is_ok-is_read.ensures.value) ∙ sym c.is_over.ensures ∙ c.if-is_over.true in
+    stopped _ _ _ _ _ _ _ _ _ _ _ _ c.loop-source.source-index _ _ _ c.check_source-done.result c.loop-source.invariant c.check_source-done.ensures c.deliver-end.ensures over
 
-pub returns : goal.returns
-returns g c =
-    all_checked c.args.settings.now c.loop-path.path-index (length c.args.checked.now.files.items) c.loop-path.status (g.O.Write.contents c.args.output.now)
-    (g.O.Write.contents c.loop-path.output) (g.E.Write.contents c.args.errors.now) (g.E.Write.contents c.loop-path.errors) c.loop-path.invariant.found (search rules)
-    c.loop-path.invariant.warned
+pub loop-source-preserved : goal.loop-source-preserved
+loop-source-preserved g c =
+    let going = ap (λ b. is_over b c.deliver-end.result) (sym c.is_ok-is_read.ensures.value) ∙ sym c.is_over.ensures ∙ c.if-is_over.false in
+    one_next c.args.settings.now (manner_of c.args.checked.now) _ _ _ _ c.deliver-end.result _ _ _ _ _ _ c.loop-source.status c.worse-status.result _ _
+    c.check_source-done.result c.loop-source.invariant c.check_source-done.ensures c.deliver-end.ensures going c.worse-status.ensures
+    (next_name source_name c.args.checked.now.files.items c.as_slice-source-items.result.now c.loop-source.source-index _ c.as_slice-source-items.ensures.value
+    c.loop-source-test.true)

@@ -1,9 +1,7 @@
--- What was found in the files so far.
-use Rattle.{koth_commands.specs.Check.Warns, koth_commands.proofs.Checked.SoFar}
+-- The sources so far are checked.
+use Rattle.{std.proofs.Common.take, koth_commands.specs.{Check.{Checks, names_of}, Report.manner_of}}
 use Rattle.koth_commands.proofs.check.check_files.Given as goal
 
-abbrev pub invariant-loop-path : goal.invariant-loop-path
-invariant-loop-path g l = record {
-  found : SoFar l.settings l.path-index l.status (g.O.Write.contents l.initial.output) (g.O.Write.contents l.output);
-  warned : Warns (g.E.Write.contents l.initial.errors) (g.E.Write.contents l.errors);
-}
+abbrev pub invariant-loop-source : goal.invariant-loop-source
+invariant-loop-source g l = Checks l.settings (manner_of l.checked) (take l.source-index (names_of l.checked)) l.status
+    (g.O.Write.contents l.initial.output) (g.O.Write.contents l.output) (g.E.Write.contents l.initial.errors) (g.E.Write.contents l.errors)
