@@ -1,0 +1,69 @@
+-- How a command of a match ends whose answer was delivered.
+use Rattle.std.proofs.Common.{◌≡◌, inl, inr, ℕ, List, Option, Result, Ok, Err, MatchResult, sym, ap, subst, ◌∙◌}
+use Rattle.{std.specs.Io.KnownBytes.{Appends, Keeps}, war_types.specs.{declared.fault.AsmFault.AsmFault, declared.settings.RawSettings.RawSettings}}
+use Rattle.{koth_text.specs.Written.WritesPart, koth_words.specs.declared.requests.View.View}
+use Rattle.{redcode_asm.specs.Assembly.assembly, koth_commands.specs.Pair.IsFaultOf}
+use Rattle.koth_commands.specs.{Answer.{AnswerParts, Delivers, IsRefusal}, Told.{TellsWord}, Trouble.{IsReadFault, Tells, fault_status, fault_word, no_memory}}
+use Rattle.koth_commands.specs.declared.{status.Status.Status, trouble.{Fault.Fault, Trouble.Trouble}}
+use Rattle.koth_contests.specs.Pair.{AnswersAs, EndsMatch, IsAnswer}
+use Rattle.koth_contests.proofs.Written.{nothing_written, stays}
+
+-- a source that is refused
+refused_as : (s : RawSettings) (view : View) (fault : AsmFault) (a : AnswerParts) → IsFaultOf s fault → IsRefusal view fault a → IsAnswer s view (λ t. ⊥) ⊥ a
+refused_as s view fault a comes is =
+    subst (λ t. AnswersAs s view (λ x. ⊥) ⊥ t a.text a.note) {x = Status.Refused} (sym is.refused) (inl (fault, comes, is.text))
+
+pub refused_answers : (s : RawSettings) (view : View) (source : List ℕ) (fault : AsmFault) (r : Result AnswerParts Trouble) → assembly s source ≡ Err fault
+    → MatchResult r (IsRefusal view fault) (λ trouble. trouble ≡ no_memory) → MatchResult r (IsAnswer s view (λ t. ⊥) ⊥) IsReadFault
+refused_answers s view source fault (Ok a) comes is = refused_as s view fault a (record { source = source; comes = comes }) is
+refused_answers s view source fault (Err trouble) comes is = inr is
+
+module _ (s : RawSettings) (view : View) (IsTold : List ℕ → Type 0) (IsNothing : Type 0) where
+  -- no answer of a match is none of another one
+  none_as : (status : Status) (text note : List ℕ) → AnswersAs s view (λ t. ⊥) ⊥ status text note → AnswersAs s view IsTold IsNothing status text note
+  none_as Status.Done text note answers = absurd answers.0
+  none_as Status.Refused text note (inl refused) = inl refused
+  none_as Status.Refused text note (inr nothing) = absurd nothing.0
+  none_as Status.WordFault text note answers = absurd answers
+  none_as Status.StreamFault text note answers = absurd answers
+  none_as Status.NoMemory text note answers = absurd answers
+
+  pub answers_none : (r : Result AnswerParts Trouble) → MatchResult r (IsAnswer s view (λ t. ⊥) ⊥) IsReadFault → MatchResult r (IsAnswer s view IsTold IsNothing) IsReadFault
+  answers_none (Ok a) is = none_as a.status a.text a.note is
+  answers_none (Err trouble) is = is
+
+  module _ (o p e f : Option (List ℕ)) where
+    whole_ends : (status : Status) (text note : List ℕ) → AnswersAs s view IsTold IsNothing status text note → Appends o p text → WritesPart e f note
+        → EndsMatch s view IsTold IsNothing status o p e f
+    whole_ends Status.Done text note (told, none) whole part = (text, told, whole, nothing_written e f (subst (WritesPart e f) none part))
+    whole_ends Status.Refused text note (inl refused) whole part = (inl (text, refused, whole), (note, part))
+    whole_ends Status.Refused text note (inr (nothing, none)) whole part = (inr (nothing, stays o p text none whole), (note, part))
+    whole_ends Status.WordFault text note answers whole part = absurd answers
+    whole_ends Status.StreamFault text note answers whole part = absurd answers
+    whole_ends Status.NoMemory text note answers whole part = absurd answers
+
+    part_ends : (status : Status) (text note : List ℕ) → AnswersAs s view IsTold IsNothing status text note → WritesPart o p text
+        → TellsWord (fault_word Fault.Stream) e f → EndsMatch s view IsTold IsNothing Status.StreamFault o p e f
+    part_ends Status.Done text note (told, none) part word = (inr (inl (text, told, part)), word)
+    part_ends Status.Refused text note (inl refused) part word = (inr (inr (text, refused, part)), word)
+    part_ends Status.Refused text note (inr (nothing, none)) part word = (inl (nothing_written o p (subst (WritesPart o p) none part)), word)
+    part_ends Status.WordFault text note answers part word = absurd answers
+    part_ends Status.StreamFault text note answers part word = absurd answers
+    part_ends Status.NoMemory text note answers part word = absurd answers
+
+    trouble_ends : (trouble : Trouble) (status : Status) → IsReadFault trouble → Keeps o p → Tells trouble status e f
+        → EndsMatch s view IsTold IsNothing status o p e f
+    trouble_ends trouble status (inl stream) kept told =
+        subst (λ t. EndsMatch s view IsTold IsNothing t o p e f) (sym (told.ends ∙ ap fault_status stream))
+        (inl kept, subst (λ w. TellsWord (fault_word w) e f) stream told.word)
+    trouble_ends trouble status (inr memory) kept told =
+        let so = subst (λ t. Tells t status e f) memory told in
+        subst (λ t. EndsMatch s view IsTold IsNothing t o p e f) (sym so.ends) (kept, so.word)
+
+    pub delivered_ends : (done : Result AnswerParts Trouble) (status : Status) → MatchResult done (IsAnswer s view IsTold IsNothing) IsReadFault
+        → Delivers done status o p e f → EndsMatch s view IsTold IsNothing status o p e f
+    delivered_ends (Ok a) status is (inl whole) =
+        subst (λ t. EndsMatch s view IsTold IsNothing t o p e f) (sym whole.0) (whole_ends a.status a.text a.note is whole.1 whole.2)
+    delivered_ends (Ok a) status is (inr part) =
+        subst (λ t. EndsMatch s view IsTold IsNothing t o p e f) (sym part.0) (part_ends a.status a.text a.note is part.1 part.2)
+    delivered_ends (Err trouble) status is (kept, told) = trouble_ends trouble status is kept told

@@ -1,0 +1,7 @@
+mod Answered
+mod Due
+mod Fought
+mod Found
+mod Meetings
+mod Written
+mod Pages

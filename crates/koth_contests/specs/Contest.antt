@@ -1,0 +1,23 @@
+-- A contest of one warrior, which is called mine, against another: their match with mine as the older one, or both orders.
+use Rattle.std.specs.Prelude.{ℕ, ◌+◌, Bool, true, false}
+use Rattle.{war_types.specs.{Warrior.WarriorParts, declared.settings.RawSettings.RawSettings}, koth_match.specs.Match.match_of, koth_hill.specs.Hill.older_points}
+use Rattle.koth_text.specs.{declared.tally.Tally.Tally, Tally.{of_older, of_younger}}
+
+abbrev pub tally : ℕ → ℕ → ℕ → Tally
+tally won lost tied = record { won = won; lost = lost; tied = tied }
+
+abbrev pub no_rounds : Tally
+no_rounds = tally 0 0 0
+
+-- the rounds of both
+abbrev pub added : Tally → Tally → Tally
+added a b = tally (a.won + b.won) (a.lost + b.lost) (a.tied + b.tied)
+
+-- the rounds of a contest from mine's side: of the match in which mine is the older one, or of that and of the one in which it is the younger
+abbrev pub contest_tally : RawSettings → Bool → WarriorParts → WarriorParts → Tally
+contest_tally s false mine other = of_older (match_of s mine other)
+contest_tally s true mine other = added (of_older (match_of s mine other)) (of_younger (match_of s other mine))
+
+-- what these rounds are worth, as a hill counts them
+abbrev pub points_of : Tally → ℕ
+points_of t = older_points (record { older_wins = t.won; younger_wins = t.lost; ties = t.tied })

@@ -1,0 +1,61 @@
+//! A contest of one warrior against another, in counts and points.
+
+ghost use Rattle.std.specs.Prelude.{◌≡◌, ◌+◌, ◌≤◌};
+ghost use Rattle.{war_types.specs.Warrior.Fits, koth_contests.specs.Contest.{added, contest_tally, points_of}};
+
+use koth_match::fight;
+use koth_text::Tally;
+use mars_core::Arena;
+use std::alloc::Allocator;
+use war_types::{Settings, Warrior};
+
+/// The rounds of a contest from the side of one warrior, `mine`: of its match as the older warrior against another one,
+/// and with `both` of the match as the younger one too. No memory is taken.
+pub fn contest_tally<A: Allocator, B: Allocator, C: Allocator>(
+    arena: &mut Arena<A>,
+    mine: &Warrior<B>,
+    other: &Warrior<C>,
+    settings: &Settings,
+    both: bool,
+) -> Tally
+    requires settings { arena.old.settings ≡ settings.now }
+    requires mine { Fits settings.now mine.now }
+    requires other { Fits settings.now other.now }
+    ensures tally { result ≡ contest_tally settings.now both mine.now other.now }
+    ensures won { result.won ≤ 131070 }
+    ensures lost { result.lost ≤ 131070 }
+    ensures tied { result.tied ≤ 131070 }
+    ensures settings { arena.new.settings ≡ arena.old.settings }
+{
+    let first = Tally::of_older(fight(arena, mine, other, settings));
+    if both {
+        added(
+            first,
+            Tally::of_younger(fight(arena, other, mine, settings)),
+        )
+    } else {
+        first
+    }
+}
+
+/// The rounds of both.
+pub fn added(a: Tally, b: Tally) -> Tally
+    requires won { a.won + b.won ≤ u64.MAX }
+    requires lost { a.lost + b.lost ≤ u64.MAX }
+    requires tied { a.tied + b.tied ≤ u64.MAX }
+    ensures { result ≡ added a b }
+{
+    Tally {
+        won: a.won + b.won,
+        lost: a.lost + b.lost,
+        tied: a.tied + b.tied,
+    }
+}
+
+/// What these rounds are worth: 3 points for each that was won, and 1 for each tie.
+pub fn points_of(tally: Tally) -> u64
+    requires { points_of tally ≤ u64.MAX }
+    ensures { result ≡ points_of tally }
+{
+    3 * tally.won + tally.tied
+}

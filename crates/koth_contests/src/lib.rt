@@ -1,0 +1,32 @@
+//! Matches of warriors that are on no hill, `fight` and `replay`: of two, of one against many, and round by round.
+//!
+//! It stands on the match and on the page of a round, and knows no store, device, session or socket. The modules, in
+//! the order in which the data pass:
+//!
+//! - `opponents`: the sources that the words for opponents stand for, also those in folders; `pair`: the warriors that
+//!   sources assemble to;
+//! - `contest`: the counts and points of one warrior against another, in one role or in both; `rounds`: how each round of
+//!   a match went;
+//! - `lines`: the lines of contests, as text or as `koth_json` has them; `meeting`: one warrior against others, one after
+//!   the other;
+//! - `fight`, `replay`: a command each.
+//!
+//! Each says what is written and how the program ends, as a function of the settings and of what was read (`EndsFight`,
+//! `EndsReplay`). Of many opponents that is a line for each, in their order and none left out, with the counts of its
+//! match (`IsContest`); of each round what the match has of it (`IsEach`). Settings are checked before anything is
+//! read.
+#![tactic(auto)]
+
+mod contest;
+pub mod fight;
+mod lines;
+mod meeting;
+mod opponents;
+mod pair;
+pub mod replay;
+mod rounds;
+
+pub use contest::{added, contest_tally, points_of};
+pub use lines::{contest_line, sum_line};
+pub use meeting::Terms;
+pub use rounds::{Played, first_round, round_of, rounds_text};

@@ -1,0 +1,292 @@
+//! The sources that the words for opponents stand for.
+
+ghost use Rattle.std.specs.Prelude.{◌≡◌, ◌++◌, ◌∷◌, [], string_bytes, OnOk, IfOk, MatchResult};
+ghost use Rattle.{koth_commands.specs.{Pair.IsWarriorOf, Streams.source_name}, koth_contests.specs.{Opponents.{names_of, AreFiles, IsIn, PutsFiles, PutsIn}, Pair.IsNoneOf}};
+
+use crate::pair::{NoWarrior, warrior_from};
+use koth_commands::trouble::Trouble;
+use koth_commands::{Reason, fill, reason_of, source_name};
+use koth_words::Source;
+use std::alloc::{AllocError, Allocator};
+use std::io::Read;
+use std::rt::Files;
+use std::str;
+use war_types::{Settings, Warrior};
+
+/// Bytes of the names in a folder that are read, each with one more for its end. One that fills them isn't taken.
+const NAMES_LIMIT: usize = 1_048_576;
+
+/// An opponent, by what messages call its source.
+#[derive(Drop)]
+pub(crate) struct Opponent<A: Allocator> {
+    pub(crate) name: String<A>,
+    pub(crate) place: Place,
+}
+
+/// Where the source of an opponent is read.
+#[derive(Clone, Copy)]
+pub(crate) enum Place {
+    /// From standard input.
+    Input,
+    /// From the file of its name.
+    File,
+    /// Nowhere, for this reason.
+    Nowhere(Reason),
+}
+
+impl<A: Allocator + Copy> Opponent<A> {
+    /// The warrior that its source assembles to.
+    pub(crate) fn warrior<R: Files, I: Read>(
+        &self,
+        rt: &R,
+        alloc: A,
+        settings: &Settings,
+        input: &mut I,
+    ) -> Result<Warrior<A>, NoWarrior<'_, A>>
+        ensures { MatchResult result (IsWarriorOf settings.now) (IsNoneOf settings.now) }
+    {
+        let name = self.name.as_str();
+        match self.place {
+            Place::Input => warrior_from(rt, alloc, settings, Source::Input(name), input),
+            Place::File => warrior_from(rt, alloc, settings, Source::File(name), input),
+            Place::Nowhere(reason) => Err(NoWarrior::Failed(Trouble::file(name, reason))),
+        }
+    }
+}
+
+/// Whether a source is a folder.
+pub(crate) fn is_folder<R: Files>(rt: &R, source: Source<'_>) -> bool {
+    match source {
+        Source::Input(_) => false,
+        Source::File(path) => match rt.metadata(path) {
+            Ok(found) => found.is_dir(),
+            Err(_) => false,
+        },
+    }
+}
+
+/// The opponents that words stand for, in their order. A folder stands for the files in it whose names end with `.red`
+/// and don't begin with a point, in the order of the bytes of their names. The error is lack of memory.
+pub(crate) fn opponents_of<R: Files, A: Allocator + Copy>(
+    rt: &R,
+    alloc: A,
+    words: &[Source<'_>],
+) -> Result<Vec<Opponent<A>, A>, AllocError>
+    ensures { IfOk result (λ opponents. AreFiles words.now (names_of opponents.items)) }
+{
+    let mut opponents = Vec::new(alloc);
+    for word in words {
+        put_word(rt, alloc, &mut opponents, *word)?;
+    }
+    Ok(opponents)
+}
+
+/// Puts the opponents that a word stands for.
+fn put_word<R: Files, A: Allocator + Copy>(
+    rt: &R,
+    alloc: A,
+    opponents: &mut Vec<Opponent<A>, A>,
+    word: Source<'_>,
+) -> Result<(), AllocError>
+    ensures { OnOk result (PutsFiles (source_name word.entry)
+        (names_of opponents.old.items) (names_of opponents.new.items)) }
+{
+    let name = source_name(word);
+    if is_folder(rt, word) {
+        return put_folder(rt, alloc, opponents, name);
+    }
+    put_alone(alloc, opponents, name, place_of(word))
+}
+
+/// Where the one source that a word stands for is read.
+fn place_of(word: Source<'_>) -> Place {
+    match word {
+        Source::Input(_) => Place::Input,
+        Source::File(_) => Place::File,
+    }
+}
+
+/// Puts the one source that a word stands for.
+fn put_alone<A: Allocator + Copy>(
+    alloc: A,
+    opponents: &mut Vec<Opponent<A>, A>,
+    word: &str,
+    place: Place,
+) -> Result<(), AllocError>
+    ensures { OnOk result (PutsFiles word.now (names_of opponents.old.items) (names_of opponents.new.items)) }
+{
+    put_one(alloc, opponents, word, place)
+}
+
+fn put_one<A: Allocator + Copy>(
+    alloc: A,
+    opponents: &mut Vec<Opponent<A>, A>,
+    name: &str,
+    place: Place,
+) -> Result<(), AllocError>
+    ensures { OnOk result (names_of opponents.new.items ≡ names_of opponents.old.items ++ name.now ∷ []) }
+{
+    let name = String::from_str(alloc, name)?;
+    opponents.push(Opponent { name, place })?;
+    Ok(())
+}
+
+/// Puts the sources in a folder, or the folder itself if it can't be read.
+fn put_folder<R: Files, A: Allocator + Copy>(
+    rt: &R,
+    alloc: A,
+    opponents: &mut Vec<Opponent<A>, A>,
+    folder: &str,
+) -> Result<(), AllocError>
+    ensures { OnOk result (PutsFiles folder.now (names_of opponents.old.items) (names_of opponents.new.items)) }
+{
+    match names_in(rt, alloc, folder) {
+        Ok(names) => {
+            let mut found = sources_among(alloc, names.as_slice())?;
+            found.sort()?;
+            put_found(alloc, opponents, folder, found.as_slice())
+        }
+        Err(Reason::Memory) => Err(AllocError),
+        Err(reason) => put_alone(alloc, opponents, folder, Place::Nowhere(reason)),
+    }
+}
+
+/// The names in a folder, each with a zero after it.
+fn names_in<R: Files, A: Allocator + Copy>(
+    rt: &R,
+    alloc: A,
+    folder: &str,
+) -> Result<Vec<u8, A>, Reason> {
+    let Ok(mut names) = Vec::from_elem(alloc, 0, NAMES_LIMIT) else {
+        return Err(Reason::Memory);
+    };
+    // A slash at the end follows a link to a folder.
+    let Ok(path) = path_in(alloc, folder, "") else {
+        return Err(Reason::Memory);
+    };
+    let mut open = match rt.open_dir(path.as_str()) {
+        Ok(open) => open,
+        Err(error) => return Err(reason_of(error.kind())),
+    };
+    match fill(&mut open, names.as_mut_slice()) {
+        Ok(count) if count < NAMES_LIMIT => {
+            names.truncate(count);
+            Ok(names)
+        }
+        Ok(_) => Err(Reason::Size),
+        Err(fault) => Err(fault.reason),
+    }
+}
+
+/// The names that end with `.red` and don't begin with a point.
+fn sources_among<'n, A: Allocator + Copy>(
+    alloc: A,
+    names: &'n [u8],
+) -> Result<Vec<&'n [u8], A>, AllocError> {
+    let mut found = Vec::new(alloc);
+    for name in names.split(|byte| *byte == 0) {
+        if name.ends_with(b".red") && !name.starts_with(b".") {
+            found.push(name)?;
+        }
+    }
+    Ok(found)
+}
+
+/// Puts the files of these names in a folder.
+fn put_found<A: Allocator + Copy>(
+    alloc: A,
+    opponents: &mut Vec<Opponent<A>, A>,
+    folder: &str,
+    names: &[&[u8]],
+) -> Result<(), AllocError>
+    ensures { OnOk result (PutsFiles folder.now (names_of opponents.old.items) (names_of opponents.new.items)) }
+{
+    for name in names {
+        put_file(alloc, opponents, folder, name)?;
+    }
+    Ok(())
+}
+
+/// Puts the file of this name in a folder. One whose name is no text can't be opened.
+fn put_file<A: Allocator + Copy>(
+    alloc: A,
+    opponents: &mut Vec<Opponent<A>, A>,
+    folder: &str,
+    name: &[u8],
+) -> Result<(), AllocError>
+    ensures { OnOk result (PutsIn folder.now (names_of opponents.old.items) (names_of opponents.new.items)) }
+{
+    match str::from_utf8(name) {
+        Ok(text) => put_in(alloc, opponents, folder, text, Place::File),
+        Err(_) => {
+            let shown = shown_bytes(alloc, name)?;
+            put_in(
+                alloc,
+                opponents,
+                folder,
+                shown.as_str(),
+                Place::Nowhere(Reason::NoText),
+            )
+        }
+    }
+}
+
+/// Puts what has this name in a folder.
+fn put_in<A: Allocator + Copy>(
+    alloc: A,
+    opponents: &mut Vec<Opponent<A>, A>,
+    folder: &str,
+    name: &str,
+    place: Place,
+) -> Result<(), AllocError>
+    ensures { OnOk result (PutsIn folder.now (names_of opponents.old.items) (names_of opponents.new.items)) }
+{
+    let path = path_in(alloc, folder, name)?;
+    put_one(alloc, opponents, path.as_str(), place)
+}
+
+/// The path of a name in a folder.
+fn path_in<A: Allocator + Copy>(alloc: A, folder: &str, name: &str) -> Result<String<A>, AllocError>
+    ensures { IfOk result (λ path. IsIn folder.now (string_bytes path)) }
+{
+    let between = if folder.ends_with('/') { "" } else { "/" };
+    joined(alloc, folder, between, name)
+}
+
+fn joined<A: Allocator + Copy>(
+    alloc: A,
+    first: &str,
+    second: &str,
+    third: &str,
+) -> Result<String<A>, AllocError>
+    ensures { IfOk result (λ text. string_bytes text ≡ first.now ++ (second.now ++ third.now)) }
+{
+    let mut text = String::from_str(alloc, first)?;
+    text.push_str(second)?;
+    text.push_str(third)?;
+    Ok(text)
+}
+
+/// Bytes as a text: those of ASCII as they are, and each other as `\x` and two digits.
+fn shown_bytes<A: Allocator>(alloc: A, bytes: &[u8]) -> Result<String<A>, AllocError> {
+    let mut text = String::new(alloc);
+    for byte in bytes {
+        if byte.is_ascii() {
+            text.push(char::from(*byte))?;
+        } else {
+            text.push_str("\\x")?;
+            text.push(hex_digit(byte / 16))?;
+            text.push(hex_digit(byte % 16))?;
+        }
+    }
+    Ok(text)
+}
+
+/// A digit in base 16.
+fn hex_digit(digit: u8) -> char {
+    char::from(if digit < 10 {
+        b'0' + digit
+    } else {
+        b'a' + (digit - 10) % 6
+    })
+}

@@ -1,0 +1,94 @@
+//! The warriors that sources assemble to, and the answer if there are none.
+
+ghost use Rattle.std.specs.Prelude.{MatchResult};
+ghost use Rattle.{koth_commands.specs.{Pair.IsWarriorOf, Trouble.IsReadFault}, koth_contests.specs.Pair.{ArePairOf, IsAnswer, IsNoneOf}};
+
+use koth_commands::trouble::Trouble;
+use koth_commands::{Answer, RefusedSource, refusal, source_name, source_text};
+use koth_words::{Source, View};
+use redcode_asm::assemble;
+use std::alloc::Allocator;
+use std::io::Read;
+use std::rt::Files;
+use war_types::{AsmFault, AsmKind, Settings, Warrior};
+
+/// Two warriors that may fight.
+#[derive(Drop)]
+pub(crate) struct Pair<A: Allocator> {
+    pub(crate) older: Warrior<A>,
+    pub(crate) younger: Warrior<A>,
+}
+
+/// Why there is no warrior.
+#[derive(Drop)]
+pub(crate) enum NoWarrior<'f, A: Allocator> {
+    /// The source that is called this is refused.
+    Refused(&'f str, Vec<u8, A>, AsmFault),
+    /// The source can't be read, or memory ran out.
+    Failed(Trouble<'f>),
+}
+
+/// The warriors that two sources assemble to. The older one is read and assembled before the younger one's file is
+/// opened.
+pub(crate) fn pair_from<'f, R: Files, A: Allocator + Copy, I: Read>(
+    rt: &R,
+    alloc: A,
+    settings: &Settings,
+    older: Source<'f>,
+    younger: Source<'f>,
+    input: &mut I,
+) -> Result<Pair<A>, NoWarrior<'f, A>>
+    ensures { MatchResult result (ArePairOf settings.now) (IsNoneOf settings.now) }
+{
+    let older = match warrior_from(rt, alloc, settings, older, input) {
+        Ok(warrior) => warrior,
+        Err(none) => return Err(none),
+    };
+    match warrior_from(rt, alloc, settings, younger, input) {
+        Ok(younger) => Ok(Pair { older, younger }),
+        Err(none) => Err(none),
+    }
+}
+
+/// The warrior that a source assembles to.
+pub(crate) fn warrior_from<'f, R: Files, A: Allocator + Copy, I: Read>(
+    rt: &R,
+    alloc: A,
+    settings: &Settings,
+    source: Source<'f>,
+    input: &mut I,
+) -> Result<Warrior<A>, NoWarrior<'f, A>>
+    ensures { MatchResult result (IsWarriorOf settings.now) (IsNoneOf settings.now) }
+{
+    let text = match source_text(rt, alloc, source, input) {
+        Ok(text) => text,
+        Err(trouble) => return Err(NoWarrior::Failed(trouble)),
+    };
+    match assemble(alloc, text.as_slice(), settings) {
+        Ok(warrior) => Ok(warrior),
+        Err(fault) if matches!(fault.kind, AsmKind::Memory) => {
+            Err(NoWarrior::Failed(Trouble::memory()))
+        }
+        Err(fault) => Err(NoWarrior::Refused(source_name(source), text, fault)),
+    }
+}
+
+/// The answer if there is no warrior: the line of a refusal, and where in the source it is and why; or its line of
+/// JSON.
+pub(crate) fn answer_none<'f, A: Allocator + Copy>(
+    alloc: A,
+    settings: &Settings,
+    none: NoWarrior<'f, A>,
+    view: View,
+) -> Result<Answer<A>, Trouble<'f>>
+    requires { IsNoneOf settings.now none }
+    ensures { MatchResult result (IsAnswer settings.now view (λ text. ⊥) ⊥) IsReadFault }
+{
+    match none {
+        NoWarrior::Refused(path, text, fault) => {
+            let text = text.as_slice();
+            refusal(alloc, settings, RefusedSource { path, text, fault }, view)
+        }
+        NoWarrior::Failed(trouble) => Err(trouble),
+    }
+}
