@@ -1,5 +1,5 @@
 -- What a challenger that falls is told of those that stay.
-use Rattle.std.specs.Prelude.{ℕ, ◌+◌, ◌==◌, nat_lt, if◌then◌else◌, List, [], ◌∷◌, ◌++◌, drop, map, codes}
+use Rattle.std.specs.Prelude.{ℕ, ◌+◌, ◌==◌, nat_lt, if◌then◌else◌, List, [], ◌∷◌, ◌++◌, Option, None, Some, drop, map, codes}
 use Rattle.{koth_match.specs.{declared.bout.Bout.Bout, Match.no_rounds}, koth_hill.specs.{Hill.older_points, Kept.Kept}}
 use Rattle.koth_hill.specs.{Kept.{entries_of, table_kept}, Table.RowParts}
 use Rattle.koth_text.specs.{Bout.{rounds_cells, rounds_heading, rounds_sides}, Columns.table_text, Tally.of_younger}
@@ -27,6 +27,15 @@ points_with k bouts row = row.score + older_points (bout_with k bouts row)
 abbrev pub least_with : Kept → List Bout → ℕ → List RowParts → ℕ
 least_with k bouts least [] = least
 least_with k bouts least (row ∷ rows) = least_with k bouts (if nat_lt (points_with k bouts row) least then points_with k bouts row else least) rows
+
+-- the least points of those in these rows, if there are any
+abbrev pub least_among : Kept → List Bout → List RowParts → Option ℕ
+least_among k bouts [] = None
+least_among k bouts (row ∷ rows) = Some (least_with k bouts (points_with k bouts row) rows)
+
+-- the least points of those on the hill against all others on it and against the challenger, if anyone is on it
+abbrev pub least_of : Kept → List Bout → Option ℕ
+least_of k bouts = least_among k bouts (table_kept k)
 
 -- the line about the least of those that stay
 abbrev pub least_line : ℕ → List ℕ

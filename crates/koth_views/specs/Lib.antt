@@ -6,9 +6,8 @@ pub mod Tally
 pub mod Standing
 pub mod Matrix
 pub use Rattle.koth_text.specs.Bout
--- What became of a submission.
+-- What became of a warrior that was submitted.
 pub mod Roster
 pub mod Placed
-pub mod Placing
 -- What a challenger that falls is told of those that stay.
 pub mod Fallen

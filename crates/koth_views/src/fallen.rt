@@ -5,7 +5,7 @@ ghost use Rattle.koth_hill.specs.{Hill.older_points, Kept.entries_of, Rows.{row_
 ghost use Rattle.koth_text.specs.{Bout.{rounds_heading, rounds_sides}, Columns.table_text};
 ghost use Rattle.koth_views.specs.Fallen.{bout_of, bout_with, challenged_among, challenged_cells, challenged_view, first_bout};
 ghost use Rattle.koth_views.specs.Fallen.{fallen_among, fallen_view, least_line};
-ghost use Rattle.koth_views.specs.Fallen.{least_with, points_with};
+ghost use Rattle.koth_views.specs.Fallen.{least_among, least_of, least_with, points_with};
 
 use crate::placed::put_points;
 use crate::tally::{NO_ROUNDS, entry_at};
@@ -128,6 +128,37 @@ fn challenged_cells<A: Allocator, B: Allocator>(
 {
     let rounds = Tally::of_younger(bout_with(hill, bouts, row.entry));
     cells_of(alloc, row.name, row.author, rounds)
+}
+
+/// The least points of those that stay when a challenger falls, against all others on the hill and against the
+/// challenger, by the results of its matches with all on the hill, by their rising entries; `None` if nobody is on it.
+/// The error is lack of memory.
+pub fn least_of<A: Allocator + Copy, B: Allocator>(
+    alloc: A,
+    hill: &Hill<B>,
+    bouts: &[Bout],
+) -> Result<Option<u64>, AllocError>
+    ensures { IfOk result (λ least. least ≡ least_of hill.now bouts.now) }
+{
+    match hill.rows(alloc) {
+        Ok(rows) => Ok(least_among(hill, bouts, rows.as_slice())),
+        Err(error) => Err(error),
+    }
+}
+
+/// The same of these rows.
+fn least_among<B: Allocator>(hill: &Hill<B>, bouts: &[Bout], rows: &[Row<'_>]) -> Option<u64>
+    ensures { result ≡ least_among hill.now bouts.now (rows_parts rows.now) }
+{
+    match rows {
+        [] => None,
+        [first, others @ ..] => Some(least_with(
+            hill,
+            bouts,
+            points_with(hill, bouts, first),
+            others,
+        )),
+    }
 }
 
 fn least_line(least: u64) -> Line

@@ -5,7 +5,7 @@
 //!
 //! - `tally`: rounds that one entry won, lost and tied, which a page shows too;
 //! - `standing`: the table of a hill; `matrix`: its matches;
-//! - `entrants`, `placed` and `placing`: who stood on a hill, and what became of a submission;
+//! - `entrants` and `placed`: who stood on a hill, and what became of a warrior that was submitted;
 //! - `fallen`: what a challenger that falls is told of those that stay.
 //!
 //! Cells, columns and the counts of one match are `koth_text`'s, and this crate passes `bout_view` on.
@@ -18,14 +18,13 @@ mod entrants;
 mod fallen;
 mod matrix;
 mod placed;
-mod placing;
 mod standing;
 mod tally;
 
 pub use entrants::{Entered, roster};
-pub use fallen::{challenged_view, fallen_view};
+pub use fallen::{challenged_view, fallen_view, least_of};
 pub use koth_text::{Tally, bout_view};
 pub use matrix::matches_view;
-pub use placing::placing_view;
+pub use placed::{Place, fell_text, placed_text};
 pub use standing::hill_view;
 pub use tally::{against_all, between};

@@ -16,14 +16,19 @@ use std::alloc::{AllocError, Allocator};
 
 /// The place of a warrior on a hill.
 #[derive(Clone, Copy)]
-pub(crate) struct Place {
+pub struct Place {
+    /// Counted from 1.
     pub entry: u64,
+    /// 1 to the hill's capacity.
     pub rank: u32,
+    /// Its points.
     pub score: u32,
 }
 
-/// The place of a warrior on the hill, who fell of the warriors before it, and its matches by the rank of the opponent.
-pub(crate) fn placed_text<A: Allocator + Copy, B: Allocator>(
+/// What became of a warrior that was placed: its entry, rank and points; a line for each of `before`, the hill's `roster` from before it, that
+/// isn't on the hill any more; and its matches by the rank of the opponent, each with the rounds that it won, lost and tied. `hill` is the hill
+/// after it. No match is fought. The error is lack of memory.
+pub fn placed_text<A: Allocator + Copy, B: Allocator>(
     alloc: A,
     before: &[Entered],
     hill: &Hill<B>,
@@ -52,12 +57,8 @@ fn placed_among<A: Allocator + Copy, B: Allocator>(
     Ok(text)
 }
 
-/// An entry that fell at once, with its points.
-pub(crate) fn fell_text<A: Allocator>(
-    alloc: A,
-    entry: u64,
-    score: u32,
-) -> Result<Vec<u8, A>, AllocError>
+/// The line of an entry that fell at once, with its points. The error is lack of memory.
+pub fn fell_text<A: Allocator>(alloc: A, entry: u64, score: u32) -> Result<Vec<u8, A>, AllocError>
     ensures { IfOk result (λ text. text.items ≡ fell_text entry score) }
 {
     let mut text = Vec::new(alloc);

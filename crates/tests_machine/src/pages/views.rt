@@ -3,9 +3,8 @@
 use crate::expecting::{expect, expect_same};
 use crate::pages::growths::check_growth;
 use crate::pages::hills::{bout, entrant, hill_of_one, hill_of_three, hill_of_two, ten_rounds};
-use hill_store::Reply;
 use koth_hill::Hill;
-use koth_views::{bout_view, hill_view, matches_view, placing_view, roster};
+use koth_views::{Place, bout_view, fell_text, hill_view, matches_view, placed_text, roster};
 use std::alloc::Global;
 use std::process::Abort;
 use tests_fixtures::{Refusing, refuse_each};
@@ -100,13 +99,13 @@ fn counts_of_a_match(rt: HostRuntime) {
     drop(text);
 }
 
-/// What is said of this reply, after which a hill of three has two warriors.
-fn check_placing(rt: &(impl Abort + AllocGlobal), reply: &Reply, due: &[&str]) {
+/// What is said of a warrior that has this place, after which a hill of three has two warriors.
+fn check_placing(rt: &(impl Abort + AllocGlobal), place: Place, due: &[&str]) {
     let hill = hill_of_three(rt, b"Scanner", b"koth");
     let before = roster(rt.alloc(), &hill).expect(rt, "there is memory");
     drop(hill);
     let hill = hill_of_two(rt);
-    let text = placing_view(rt.alloc(), before.as_slice(), &hill, reply);
+    let text = placed_text(rt.alloc(), before.as_slice(), &hill, place);
     drop(hill);
     drop(before);
     let text = text.expect(rt, "there is memory");
@@ -114,8 +113,8 @@ fn check_placing(rt: &(impl Abort + AllocGlobal), reply: &Reply, due: &[&str]) {
     drop(text);
 }
 
-/// The reply, and the lines, of the entry 3 as it came and the entry 1 fell.
-const THIRD: Reply = Reply::Placed {
+/// The place of the entry 3, and the lines as it came and the entry 1 fell.
+const THIRD: Place = Place {
     entry: 3,
     rank: 1,
     score: 22,
@@ -129,18 +128,14 @@ const PLACED: [&str; 4] = [
 ];
 
 /// The same of one that fell as it came.
-const LAST: Reply = Reply::Fell {
-    entry: 21,
-    score: 1,
-};
-
 const FELL: [&str; 1] = ["entry 21 with 1 point fell: it is not on the hill"];
 
 #[test]
 fn placings(rt: HostRuntime) {
-    check_placing(&rt, &THIRD, &PLACED);
-    check_placing(&rt, &LAST, &FELL);
-    check_placing(&rt, &Reply::Worn, &[]);
+    check_placing(&rt, THIRD, &PLACED);
+    let text = fell_text(rt.alloc(), 21, 1).expect(&rt, "there is memory");
+    check_lines(&rt, text.as_slice(), &FELL);
+    drop(text);
 }
 
 /// Each growth that is refused is the error.
