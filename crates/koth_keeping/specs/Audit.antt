@@ -1,6 +1,7 @@
 -- What `audit` answers.
 use Rattle.std.specs.Prelude.{◌≡◌, ℕ, List, Option, None, Some, ◌++◌, [], codes, decimal}
 use Rattle.{koth_match.specs.declared.bout.Bout.Bout, koth_hill.specs.{Kept.{Kept, AreTrue, AreTrueBefore, IsUntrue}, declared.untrue.Untrue.Untrue}}
+use Rattle.{koth_json.specs.Reply.audit_line, koth_words.specs.declared.requests.View.View}
 use Rattle.koth_commands.specs.{Answer.{AnswerParts, answer_parts}, declared.status.Status.Status}
 
 -- three counts of a match after a word
@@ -20,15 +21,26 @@ abbrev pub IsAudited : Kept → Option Untrue → Type 0
 IsAudited hill None = AreTrue hill
 IsAudited hill (Some u) = IsUntrue hill u.older u.younger u.kept u.fought × AreTrueBefore hill u.older u.younger
 
+-- true or false
+abbrev pub plain_line : Option Untrue → List ℕ
+plain_line None = codes "true\n"
+plain_line (Some u) = codes "false\n"
+
+-- what an audit that found this says
+abbrev pub audit_text : View → Option Untrue → List ℕ
+audit_text View.Plain found = plain_line found
+audit_text View.Table found = plain_line found
+audit_text View.Json found = audit_line found
+
 -- the answer to an audit that found this
-abbrev pub audit_answer : Option Untrue → AnswerParts
-audit_answer None = answer_parts Status.Done (codes "true\n") []
-audit_answer (Some u) = answer_parts Status.Refused (codes "false\n") (untrue_text u)
+abbrev pub audit_answer : View → Option Untrue → AnswerParts
+audit_answer view None = answer_parts Status.Done (audit_text view None) []
+audit_answer view (Some u) = answer_parts Status.Refused (audit_text view (Some u)) (untrue_text u)
 
 -- the answer to an audit of this hill
-abbrev pub AuditsOf : Kept → AnswerParts → Type 0
-AuditsOf hill answer = (found : Option Untrue) × IsAudited hill found × (answer ≡ audit_answer found)
+abbrev pub AuditsOf : View → Kept → AnswerParts → Type 0
+AuditsOf view hill answer = (found : Option Untrue) × IsAudited hill found × (answer ≡ audit_answer view found)
 
 -- the answer to an audit of some hill
-abbrev pub SaysAudit : AnswerParts → Type 0
-SaysAudit answer = (hill : Kept) × AuditsOf hill answer
+abbrev pub SaysAudit : View → AnswerParts → Type 0
+SaysAudit view answer = (hill : Kept) × AuditsOf view hill answer

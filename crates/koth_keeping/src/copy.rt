@@ -11,7 +11,7 @@ use hill_store::{Store, Untrue};
 use koth_commands::Answer;
 use koth_commands::trouble::Trouble;
 use koth_files::look_hill;
-use koth_words::Copied;
+use koth_words::{Copied, View};
 use sector_disk::Device;
 use std::alloc::Allocator;
 use std::rt::Files;
@@ -47,7 +47,7 @@ where
     ensures { Answers (CopiesOf store.old.hill files.entry.audit) result }
 {
     match first_untrue(store, files.audit) {
-        Some(untrue) => Ok(answer_found(alloc, Some(untrue))?),
+        Some(untrue) => Ok(answer_found(alloc, View::Plain, Some(untrue))?),
         None => copied(rt, alloc, store, files.new, b"COPIED\n"),
     }
 }

@@ -1,17 +1,20 @@
 -- What a run promises for its arguments, from how its request ended, or from why there is none.
-use Rattle.std.proofs.Common.{◌≡◌, ◌≢◌, ◌⊎◌, ℕ, Bool, Bor, true, false, true≢false, is_some, ap, List, [], Option, None, Some, Result, Ok, Err, inl, inr, ◌∙◌, refl, sym, subst, codes, length, option_map}
-use Rattle.{std.specs.{Prelude.{⊤, unwrap_or}, Str.bytes_eq}, std.proofs.{lemmas.List.length-map, KnownBytes.Keeps-refl}, std.specs.Io.KnownBytes.Keeps, clap.specs.Walk.{Row, Text}}
-use Rattle.{clap.specs.Words.{all_of, first_of, one_of}, war_types.specs.{declared.settings.RawSettings.RawSettings, declared.settings.SettingsFault.SettingsFault, Settings.settings_of}}
-use Rattle.koth_words.specs.{Options.number_or, Settings.{IsGiven, base_in, chosen_in, over, settings_in}, Words.{AsksBy, IsRefusal, IsSource, given_in, has_flag, is_input, view_in}}
+use Rattle.std.proofs.Common.{◌≡◌, ◌≢◌, ◌⊎◌, ℕ, Bool, Bor, true, false, true≢false, if◌then◌else◌, is_some, ap, ap₂, List, [], ◌∷◌, IfOk, map, Option, None, Some, Result, Ok, Err, inl, inr, ◌∙◌, refl, sym, subst, codes, option_map}
+use Rattle.{std.specs.{Prelude.{⊤, unwrap_or}, Str.bytes_eq}, std.proofs.{KnownBytes.{Consumes-nil, Keeps-refl}}, std.specs.Io.KnownBytes.Keeps, clap.specs.Walk.{Row, Text}}
+use Rattle.{clap.specs.Words.first_of, war_types.specs.{declared.settings.RawSettings.RawSettings, declared.settings.SettingsFault.SettingsFault, Settings.settings_of}}
+use Rattle.koth_words.specs.{Settings.{IsGiven, base_in, chosen_in, over, settings_in}, Sources.{Place, input_name, is_input as is_dash, place, place_named}, Words.{AsksBy, IsHelp, IsRefusal, given_in, has_flag, text_or_none, view_in}}
 use Rattle.{koth_words.specs.{declared.settings.{Chosen.Chosen, Given.Given}, declared.requests.NoRequest.NoRequest}}
 use Rattle.koth_words.specs.{declared.requests.Request.Request, declared.requests.Request.TheVariants.{Asm, Check, Fight, Create, Submit, Show, Serve, Audit, Migrate, Page, Replay, Try, Copy, Reseed}}
-use Rattle.{koth_words.specs.{declared.requests.Source.Source, declared.requests.View.View}, koth_commands.specs.{Answer.{AnswerParts, EndsGiven}, Asm.{EndsAsmFrom, EndsAsmOf, EndsUnder, is_of_input}}}
-use Rattle.koth_commands.specs.{Check.{EndsCheck, EndsCheckUnder}, Fight.{EndsFight, EndsFightUnder}, Replay.{EndsReplay, EndsReplayUnder, with_round}}
-use Rattle.koth_commands.specs.{Streams.{Streams, streams, unread}, Trouble.{Tells, no_memory}, declared.status.Status.{Status, TheVariants.{NoMemory, WordFault}}}
-use Rattle.koth_commands.proofs.Told.{kept_part, keeps_some, writes_nothing}
+use Rattle.{koth_words.specs.{declared.requests.Source.Source, declared.requests.View.View}, koth_commands.specs.{Answer.{AnswerParts, EndsGiven}, Asm.{EndsAsmFrom, IsDoneFrom, status_of}}}
+use Rattle.koth_commands.specs.{Check.{EndsCheck, EndsCheckUnder, names_of}, Report.{Manner, manner_of, status_by}}
+use Rattle.{war_types.specs.{Warrior.WarriorParts, declared.fault.AsmFault.AsmFault}, redcode_asm.specs.Assembly.assembly, koth_commands.proofs.Checks.none_checked, koth_server.proofs.Statuses.{IsNone, delivered}}
+use Rattle.koth_commands.specs.{Streams.{Streams, is_input, source_name, streams, unread}, Trouble.{Tells, no_memory}, declared.status.Status.{Status, TheVariants.{NoMemory, WordFault}}}
+use Rattle.koth_commands.proofs.Told.{kept_part, writes_nothing}
 use Rattle.koth_keeping.specs.{Answers.{Answers, AnswersGiven, Ends, Outcome, SaysLine}, Created.{MayCreate, SaysCreated}, Audit.SaysAudit, Copies.{MayReseed, SaysCopied}, Migration.migrated_line, Seed.seed_hint}
 use Rattle.koth_server.specs.Hills.{AfterNote, EndsServe, EndsService, EndsSource, SaysReply, SaysShown, TellsNote, listening_line, sight_of}
-use Rattle.koth_server.specs.{Page.SaysPage, Trials.SaysTrial, Run.{CommandEnds, EndsRequest, EndsRequestUnder, EndsWithout, sight_in, viewed}, Settled.{AreSettled, EndsBy, EndsSettled, EndsUnderGiven, TellsNoHill, names_hill}}
+use Rattle.koth_server.specs.{Page.SaysPage, Trials.SaysTrial, Run.{CommandEnds, EndsRequest, EndsRequestUnder, EndsHelp, EndsWithout, AreWatched, FightEnds, ReplayEnds, manner_in, name_at, names_in, sight_in, viewed}, Settled.{AreSettled, EndsBy, EndsSettled, EndsUnderGiven, TellsNoHill, names_hill}}
+use Rattle.koth_words.specs.declared.requests.{Fighters.Fighters, Round.Round}
+use Rattle.koth_contests.specs.{Fight.{EndsFight, EndsFightUnder}, Replay.{EndsReplay, EndsReplayUnder, with_round}}
 
 -- one fact or the other
 abbrev Either : Bool → Type 0 → Type 0 → Type 0
@@ -19,8 +22,12 @@ Either true one other = one
 Either false one other = other
 
 either : (b : Bool) (one other : Type 0) → one → other → Either b one other
-either true one other is else = is
-either false one other is else = else
+either true one other this that = this
+either false one other this that = that
+
+-- whether the words of a source are `-`
+abbrev reads_in : List Row → Bool
+reads_in rows = is_dash (text_or_none (first_of (codes "SOURCE") rows))
 
 -- How the command of this name ends, with what the arguments give it: nothing is said of any other name.
 abbrev pub EndsNamed : Text → View → List Row → Status → Streams → Streams → Type 0
@@ -28,27 +35,47 @@ EndsNamed name view given status before after =
     let shown = viewed (view_in given) view in
     let u = unread before in
     let v = unread after in
-    Either (bytes_eq name (codes "asm")) (EndsBy given (λ s. EndsAsmOf (is_input (first_of (codes "FILE") given)) (settings_of s) status before after) status before after)
-    (Either (bytes_eq name (codes "check")) (EndsBy given (λ s. EndsCheck (length (unwrap_or (all_of (codes "FILE") given) [])) (settings_of s) status u v) status before after)
-    (Either (bytes_eq name (codes "fight")) (EndsBy given (λ s. EndsFight shown (settings_of s) status u v) status before after)
+    Either (bytes_eq name (codes "asm")) (EndsBy given (λ s. EndsAsmFrom (reads_in given) (settings_of s) status before after) status before after)
+    (Either (bytes_eq name (codes "check")) (EndsBy given (λ s. EndsCheck (manner_in given) (names_in given) (settings_of s) status u v) status before after)
+    (Either (bytes_eq name (codes "fight")) (EndsBy given (λ s. FightEnds given shown (settings_of s) status u v) status before after)
     (Either (bytes_eq name (codes "create")) (EndsBy given (λ s. Ends (MayCreate (has_flag (codes "draw-seed") given) s) status u v) status before after)
-    (Either (bytes_eq name (codes "submit")) (AfterNote (EndsSource false (SaysReply shown) status) before after)
+    (Either (bytes_eq name (codes "submit")) (AfterNote (EndsSource (reads_in given) (SaysReply shown) status) before after)
     (Either (bytes_eq name (codes "show")) (AfterNote (Ends (Answers (SaysShown shown (sight_in given))) status) u v)
-    (Either (bytes_eq name (codes "audit")) (AfterNote (Ends (Answers SaysAudit) status) u v)
+    (Either (bytes_eq name (codes "audit")) (AfterNote (Ends (Answers (SaysAudit shown)) status) u v)
     (Either (bytes_eq name (codes "migrate")) (Ends (Answers (SaysLine migrated_line)) status u v)
     (Either (bytes_eq name (codes "page")) (AfterNote (Ends (Answers SaysPage) status) u v)
     (Either (bytes_eq name (codes "serve")) (AfterNote (EndsServe (settings_of (settings_in given)) status) u v)
-    (Either (bytes_eq name (codes "replay")) (EndsBy given (λ s. EndsReplay (number_or 1 (one_of (codes "round") given)) (settings_of s) status u v) status before after)
-    (Either (bytes_eq name (codes "try")) (AfterNote (EndsSource false (SaysTrial shown) status) before after)
+    (Either (bytes_eq name (codes "replay")) (EndsBy given (λ s. ReplayEnds given (settings_of s) status u v) status before after)
+    (Either (bytes_eq name (codes "try")) (AfterNote (EndsSource (reads_in given) (SaysTrial shown) status) before after)
     (Either (bytes_eq name (codes "copy")) (AfterNote (Ends (Answers (SaysCopied (has_flag (codes "audit") given))) status) u v)
     (Either (bytes_eq name (codes "reseed")) (AfterNote (Ends MayReseed status) u v) ⊤)))))))))))))
 
 -- ---- a request: the command that the arguments name ended so, under the settings that they give
 
--- a source is the input if the arguments say so
-same_source : (name : Option Text) (source : Source) → IsSource name source → is_of_input source ≡ is_input name
-same_source name Source.Input is = sym is
-same_source name (Source.File path) is = sym is.0
+-- whether a place is the input
+abbrev at_input : Place → Bool
+at_input (Place.Input name) = true
+at_input (Place.File file) = false
+
+of_place : (source : Source) → at_input (place source) ≡ is_input source
+of_place (Source.Input name) = refl
+of_place (Source.File file) = refl
+
+at_word : (b : Bool) (called word : Text) → at_input (if b then Place.Input called else Place.File word) ≡ b
+at_word true called word = refl
+at_word false called word = refl
+
+-- a source is the input if the words say so
+same_source : (source : Source) (rows : List Row) → place source ≡ place_named (codes "SOURCE") rows → is_input source ≡ reads_in rows
+same_source source rows is = sym (of_place source) ∙ ap at_input is ∙ at_word (reads_in rows) (input_name rows) (text_or_none (first_of (codes "SOURCE") rows))
+
+called : (source : Source) → source_name source ≡ name_at (place source)
+called (Source.Input name) = refl
+called (Source.File file) = refl
+
+all_called : (sources : List Source) → map source_name sources ≡ map name_at (map place sources)
+all_called [] = refl
+all_called (source ∷ sources) = ap₂ (λ n ns. n ∷ ns) (called source) (all_called sources)
 
 -- how a command ends under settings that are given, one way or another
 under_map : (like : Bool) (base : RawSettings) (chosen : Chosen) (ends other : RawSettings → Type 0) (status : Status) (before after : Streams)
@@ -93,20 +120,25 @@ module _ (view : View) (e : Text × List Row) (status : Status) (before after : 
 
   named : (request : Request) → AsksBy (Some e) request → EndsRequest view request status before after → Carries e.0
   named (Asm given source) asks ends = subst Carries (sym asks.0)
-      (by_words e.1 given (Under (Asm given source)) (λ s. EndsAsmOf (is_input (first_of (codes "FILE") e.1)) (settings_of s) status before after) status before after asks.1
-      (λ s ended. subst (λ b. EndsAsmOf b (settings_of s) status before after) (same_source (first_of (codes "FILE") e.1) source asks.2) ended) ends.0)
-  named (Check given checked) asks ends = subst Carries (sym asks.0)
+      (by_words e.1 given (Under (Asm given source)) (λ s. EndsAsmFrom (reads_in e.1) (settings_of s) status before after) status before after asks.1
+      (λ s ended. subst (λ b. EndsAsmFrom b (settings_of s) status before after) (same_source source e.1 asks.2) ended) ends.0)
+  named (Check given checked) asks ends =
+      let manner : manner_of checked ≡ manner_in e.1 = λ i. record { form = asks.2.form i; warnings = asks.2.warnings i; deny = asks.2.deny i } in
+      let names : names_of checked ≡ names_in e.1 = all_called checked.files.items ∙ ap (map name_at) asks.2.files in
+      subst Carries (sym asks.0)
       (by_words e.1 given (Under (Check given checked))
-      (λ s. EndsCheck (length (unwrap_or (all_of (codes "FILE") e.1) [])) (settings_of s) status (unread before) (unread after)) status before after asks.1
-      (λ s ended. subst (λ n. EndsCheck n (settings_of s) status (unread before) (unread after))
-      (sym (length-map checked.files.items (λ file. file.now)) ∙ ap length asks.2) ended) ends.0)
+      (λ s. EndsCheck (manner_in e.1) (names_in e.1) (settings_of s) status (unread before) (unread after)) status before after asks.1
+      (λ s ended. subst (λ m. EndsCheck m (names_in e.1) (settings_of s) status (unread before) (unread after)) manner
+      (subst (λ l. EndsCheck (manner_of checked) l (settings_of s) status (unread before) (unread after)) names ended)) ends.0)
   named (Fight given files) asks ends = subst Carries (sym asks.0)
-      (by_words e.1 given (Under (Fight given files)) (λ s. EndsFight (viewed (view_in e.1) view) (settings_of s) status (unread before) (unread after)) status before after asks.1
-      (λ s ended. subst (λ v. EndsFight (viewed v view) (settings_of s) status (unread before) (unread after)) asks.4 ended) ends.0)
+      (by_words e.1 given (Under (Fight given files)) (λ s. FightEnds e.1 (viewed (view_in e.1) view) (settings_of s) status (unread before) (unread after)) status before after asks.1
+      (λ s ended. inl (files, asks.2, subst (λ v. EndsFight files (viewed v view) (settings_of s) status (unread before) (unread after)) asks.2.view ended)) ends.0)
   named (Create given creation) asks ends = subst Carries (sym asks.0)
       (by_words e.1 given (Under (Create given creation)) (λ s. Ends (MayCreate (has_flag (codes "draw-seed") e.1) s) status (unread before) (unread after)) status before after asks.1
       (λ s ended. subst (λ d. Ends (MayCreate d s) status (unread before) (unread after)) asks.4 ended) ends.0)
-  named (Submit files) asks ends = subst Carries (sym asks.0) (subst (λ v. AfterNote (EndsSource false (SaysReply (viewed v view)) status) before after) asks.3 ends.0.1)
+  named (Submit files) asks ends = subst Carries (sym asks.0)
+      (subst (λ b. AfterNote (EndsSource b (SaysReply (viewed (view_in e.1) view)) status) before after) (same_source files.source e.1 asks.2)
+      (subst (λ v. AfterNote (EndsSource (is_input files.source) (SaysReply (viewed v view)) status) before after) asks.3 ends.0.1))
   named (Show shown) asks ends =
       let same : sight_of shown ≡ sight_in e.1 = λ i. record { matches = asks.2 i; settings = asks.3 i; with_seed = asks.4 i } in
       subst Carries (sym asks.0)
@@ -114,13 +146,18 @@ module _ (view : View) (e : Text × List Row) (status : Status) (before after : 
       (subst (λ m. AfterNote (Ends (Answers (SaysShown (viewed shown.view view) m)) status) (unread before) (unread after)) same ends.0.1))
   named (Serve given service) asks ends =
       subst Carries (sym asks.0) (subst (λ s. AfterNote (EndsServe (settings_of s) status) (unread before) (unread after)) asks.1 ends.0.1)
-  named (Audit file) asks ends = subst Carries (sym asks.0) ends.0.1
+  named (Audit audited) asks ends = subst Carries (sym asks.0)
+      (subst (λ v. AfterNote (Ends (Answers (SaysAudit (viewed v view))) status) (unread before) (unread after)) asks.2 ends.0.1)
   named (Migrate files) asks ends = subst Carries (sym asks.0) ends.0.1
   named (Page file) asks ends = subst Carries (sym asks.0) ends.0.1
-  named (Replay given watched) asks ends = subst Carries (sym asks.0)
-      (by_words e.1 given (Under (Replay given watched)) (λ s. EndsReplay (number_or 1 (one_of (codes "round") e.1)) (settings_of s) status (unread before) (unread after)) status before after asks.1
-      (λ s ended. subst (λ n. EndsReplay n (settings_of s) status (unread before) (unread after)) asks.4 ended) ends.0)
-  named (Try files) asks ends = subst Carries (sym asks.0) (subst (λ v. AfterNote (EndsSource false (SaysTrial (viewed v view)) status) before after) asks.3 ends.0.1)
+  named (Replay given watched) asks ends =
+      let are : AreWatched e.1 watched = record { older = asks.2; younger = asks.3; round = asks.4; page = asks.5 } in
+      subst Carries (sym asks.0)
+      (by_words e.1 given (Under (Replay given watched)) (λ s. ReplayEnds e.1 (settings_of s) status (unread before) (unread after)) status before after asks.1
+      (λ s ended. inl (watched, are, ended)) ends.0)
+  named (Try files) asks ends = subst Carries (sym asks.0)
+      (subst (λ b. AfterNote (EndsSource b (SaysTrial (viewed (view_in e.1) view)) status) before after) (same_source files.source e.1 asks.2)
+      (subst (λ v. AfterNote (EndsSource (is_input files.source) (SaysTrial (viewed v view)) status) before after) asks.3 ends.0.1))
   named (Copy files) asks ends = subst Carries (sym asks.0) (subst (λ a. AfterNote (Ends (Answers (SaysCopied a)) status) (unread before) (unread after)) asks.3 ends.0.1)
   named (Reseed files) asks ends = subst Carries (sym asks.0) ends.0.1
 
@@ -131,41 +168,61 @@ carried view None request status before after name asks ends names = absurd asks
 carried view (Some e) request status before after name asks ends names =
     subst (λ t. EndsNamed t view e.1 status before after) (ap (λ o. unwrap_or o []) names) (named view e status before after request asks ends)
 
-asm_word : (of_input : Bool) (r : Result RawSettings SettingsFault) (before after : Streams) → EndsAsmOf of_input r WordFault before after → ⊥
-asm_word true (Ok s) before after ends = ends
-asm_word true (Err fault) before after ends = ends
-asm_word false (Ok s) before after ends = ends.0
-asm_word false (Err fault) before after ends = ends.0
+status_none : (outcome : Result WarriorParts AsmFault) (status : Status) → status ≡ status_of outcome → status ≢ WordFault
+status_none (Ok warrior) status is word = absurd (cc)
+status_none (Err fault) status is word = absurd (cc)
+
+assembled_none : (of_input : Bool) (r : Result RawSettings SettingsFault) (i j : Option (List ℕ)) (done : Outcome) → IsDoneFrom of_input r i j done → IfOk done IsNone
+assembled_none true (Ok s) i j (Ok answer) is = status_none (assembly s is.source) answer.status is.comes.status
+assembled_none false (Ok s) i j (Ok answer) is = status_none (assembly s is.0.source) answer.status is.0.comes.status
+assembled_none of_input (Err fault) i j (Ok answer) is = absurd is
+assembled_none of_input r i j (Err trouble) is = tt
 
 -- `asm` never ends as at a fault of the arguments
-pub asm_no_word : (source : Source) (r : Result RawSettings SettingsFault) (status : Status) (before after : Streams) → EndsAsmFrom source r status before after
+pub asm_no_word : (of_input : Bool) (r : Result RawSettings SettingsFault) (status : Status) (before after : Streams) → EndsAsmFrom of_input r status before after
     → status ≢ WordFault
-asm_no_word source r status before after ends is =
-    asm_word (is_of_input source) r before after (subst (λ t. EndsAsmFrom source r t before after) is ends)
+asm_no_word of_input r status before after (done, is, sent) =
+    delivered done status before.output after.output before.errors after.errors (assembled_none of_input r before.input after.input done is) sent
 
 given_word : (ends : RawSettings → Status → Streams → Streams → Type 0) (r : Result RawSettings SettingsFault) (before after : Streams)
     → ((s : RawSettings) → ends s WordFault before after → ⊥) → EndsGiven ends r WordFault before after → ⊥
 given_word ends (Ok s) before after never ended = never s ended
 given_word ends (Err fault) before after never ended = ended
 
+by_none : (unread refused : Bool) → status_by unread refused ≢ WordFault
+by_none true refused is = absurd (cc)
+by_none false true is = absurd (cc)
+by_none false false is = absurd (cc)
+
+check_word : (s : RawSettings) (how : Manner) (names : List (List ℕ)) (status : Status) (o p e f : Option (List ℕ)) → EndsCheckUnder s how names status o p e f
+    → status ≢ WordFault
+check_word s how names status o p e f (inl checked) is = by_none _ _ (sym checked.ends ∙ is)
+check_word s how names status o p e f (inr stopped) is = elim stopped.breaks [ inl failed ↦ absurd (cc) | inr memory ↦ absurd (cc) ]
+
 -- nor do `check`, `fight` and `replay`
-pub check_no_word : (count : ℕ) (r : Result RawSettings SettingsFault) (status : Status) (before after : Streams) → EndsCheck count r status before after
-    → status ≢ WordFault
-check_no_word count r status before after ends is =
-    given_word (λ s end u v. EndsCheckUnder s count end u.output v.output u.errors v.errors) r before after (λ s ended. ended)
-    (subst (λ t. EndsCheck count r t before after) is ends)
+pub check_no_word : (how : Manner) (names : List (List ℕ)) (r : Result RawSettings SettingsFault) (status : Status) (before after : Streams)
+    → EndsCheck how names r status before after → status ≢ WordFault
+check_no_word how names r status before after ends is =
+    given_word (λ s end u v. EndsCheckUnder s how names end u.output v.output u.errors v.errors) r before after
+    (λ s ended. check_word s how names WordFault _ _ _ _ ended refl)
+    (subst (λ t. EndsCheck how names r t before after) is ends)
 
-pub fight_no_word : (view : View) (r : Result RawSettings SettingsFault) (status : Status) (before after : Streams) → EndsFight view r status before after
-    → status ≢ WordFault
-fight_no_word view r status before after ends is =
-    given_word (λ s end u v. EndsFightUnder s view end u.output v.output u.errors v.errors) r before after (λ s ended. ended)
-    (subst (λ t. EndsFight view r t before after) is ends)
+fight_word : (s : RawSettings) (fighters : Fighters) (view : View) (o p e f : Option (List ℕ)) → EndsFightUnder s fighters view WordFault o p e f → ⊥
+fight_word s fighters view o p e f (inl alone) = alone.2
+fight_word s fighters view o p e f (inr many) = elim many.1 [ inl met ↦ met.2.2 | inr none ↦ none ]
 
-pub replay_no_word : (round : ℕ) (r : Result RawSettings SettingsFault) (status : Status) (before after : Streams) → EndsReplay round r status before after
-    → status ≢ WordFault
-replay_no_word round r status before after ends is =
-    given_word (λ s end u v. EndsReplayUnder s round end u.output v.output u.errors v.errors) (with_round round r) before after (λ s ended. ended)
-    (subst (λ t. EndsReplay round r t before after) is ends)
+pub fight_no_word : (fighters : Fighters) (view : View) (r : Result RawSettings SettingsFault) (status : Status) (before after : Streams)
+    → EndsFight fighters view r status before after → status ≢ WordFault
+fight_no_word fighters view r status before after ends is =
+    given_word (λ s end u v. EndsFightUnder s fighters view end u.output v.output u.errors v.errors) r before after
+    (λ s ended. fight_word s fighters view before.output after.output before.errors after.errors ended)
+    (subst (λ t. EndsFight fighters view r t before after) is ends)
+
+pub replay_no_word : (round : Round) (named : Bool) (r : Result RawSettings SettingsFault) (status : Status) (before after : Streams)
+    → EndsReplay round named r status before after → status ≢ WordFault
+replay_no_word round named r status before after ends is =
+    given_word (λ s end u v. EndsReplayUnder s round named end u.output v.output u.errors v.errors) (with_round round r) before after (λ s ended. ended)
+    (subst (λ t. EndsReplay round named r t before after) is ends)
 
 -- a request that is asked for ends as its command does
 pub request_ends : (settings : RawSettings) (view : View) (request asked : Request) (status : Status) (before after : Streams) → request ≡ asked
@@ -180,14 +237,15 @@ memory_is_no_fault status memory word = absurd (cc)
 module _ (i o p e f : Option (List ℕ)) (kept : Keeps o p) (told : Tells no_memory NoMemory e f) where
   given_no_memory : (ends : RawSettings → Status → Streams → Streams → Type 0) (r : Result RawSettings SettingsFault)
       → ((s : RawSettings) → ends s NoMemory (streams i o e) (streams i p f)) → EndsGiven ends r NoMemory (streams i o e) (streams i p f)
-  given_no_memory ends (Ok s) no_memory = no_memory s
-  given_no_memory ends (Err fault) no_memory = (record { input = Keeps-refl i; output = kept }, told.word)
+  given_no_memory ends (Ok s) holds = holds s
+  given_no_memory ends (Err fault) holds = (record { input = Keeps-refl i; output = kept }, told.word)
 
   may_no_memory : (May : Outcome → Type 0) → May (Err no_memory) → Ends May NoMemory (streams i o e) (streams i p f)
   may_no_memory May may = record { outcome = Err no_memory; may = may; delivered = (kept, told) }
 
-  source_no_memory : (Says : List ℕ → AnswerParts → Type 0) → EndsSource false Says NoMemory (streams i o e) (streams i p f)
-  source_no_memory Says = record { outcome = Err no_memory; may = ((refl, ([], tt)), Keeps-refl i); delivered = (kept, told) }
+  source_no_memory : (of_input : Bool) (Says : List ℕ → AnswerParts → Type 0) → EndsSource of_input Says NoMemory (streams i o e) (streams i p f)
+  source_no_memory true Says = record { outcome = Err no_memory; may = (refl, ([], Consumes-nil i)); delivered = (kept, told) }
+  source_no_memory false Says = record { outcome = Err no_memory; may = ((refl, ([], tt)), Keeps-refl i); delivered = (kept, told) }
 
   service_no_memory : EndsService NoMemory (streams i o e) (streams i p f)
   service_no_memory = inr (record {
@@ -209,21 +267,21 @@ create_no_memory false given = make_no_memory (seed_hint given.seed) given (sett
 create_no_memory true given = inr refl
 
 module _ (i o p e f : Option (List ℕ)) (kept : Keeps o p) (told : Tells no_memory NoMemory e f) where
-  asm_no_memory : (of_input : Bool) (r : Result RawSettings SettingsFault) → EndsAsmOf of_input r NoMemory (streams i o e) (streams i p f)
-  asm_no_memory true r = given_no_memory i o p e f kept told EndsUnder r (λ s. (kept, told.word))
-  asm_no_memory false r = (given_no_memory None o p e f kept told EndsUnder r (λ s. (kept, told.word)), Keeps-refl i)
+  asm_no_memory : (of_input : Bool) (r : Result RawSettings SettingsFault) → EndsAsmFrom of_input r NoMemory (streams i o e) (streams i p f)
+  asm_no_memory true (Ok s) = (Err no_memory, (inr refl, ([], Consumes-nil i)), (kept, told))
+  asm_no_memory false (Ok s) = (Err no_memory, ((inr refl, ([], tt)), Keeps-refl i), (kept, told))
+  asm_no_memory of_input (Err fault) = (Err no_memory, (Keeps-refl i, inr refl), (kept, told))
 
-  check_no_memory : (count : ℕ) (r : Result RawSettings SettingsFault) → EndsCheck count r NoMemory (streams None o e) (streams None p f)
-  check_no_memory count r = given_no_memory None o p e f kept told (λ s end u v. EndsCheckUnder s count end u.output v.output u.errors v.errors) r
-      (λ s. (keeps_some o p kept, (e, inl (Keeps-refl e), told.word)))
-
-  fight_no_memory : (view : View) (r : Result RawSettings SettingsFault) → EndsFight view r NoMemory (streams None o e) (streams None p f)
-  fight_no_memory view r = given_no_memory None o p e f kept told (λ s end u v. EndsFightUnder s view end u.output v.output u.errors v.errors) r
-      (λ s. (kept, told.word))
-
-  replay_no_memory : (round : ℕ) (r : Result RawSettings SettingsFault) → EndsReplay round r NoMemory (streams None o e) (streams None p f)
-  replay_no_memory round r = given_no_memory None o p e f kept told (λ s end u v. EndsReplayUnder s round end u.output v.output u.errors v.errors) (with_round round r)
-      (λ s. (kept, told.word))
+  check_no_memory : (how : Manner) (names : List (List ℕ)) (r : Result RawSettings SettingsFault) → EndsCheck how names r NoMemory (streams None o e) (streams None p f)
+  check_no_memory how names r = given_no_memory None o p e f kept told (λ s end u v. EndsCheckUnder s how names end u.output v.output u.errors v.errors) r
+      (λ s. inr (record {
+        count = 0;
+        begun = Status.Done;
+        written = o;
+        told = e;
+        checked = none_checked s how o e;
+        breaks = inr (refl, kept, told.word);
+      }))
 
   serve_no_memory : (r : Result RawSettings SettingsFault) → EndsServe r NoMemory (streams None o e) (streams None p f)
   serve_no_memory r = given_no_memory None o p e f kept told (λ s. EndsService) r (λ s. service_no_memory None o p e f kept told)
@@ -241,25 +299,25 @@ module _ (i o p e f : Option (List ℕ)) (kept : Keeps o p) (told : Tells no_mem
   named_no_memory name view given =
       let shown = viewed (view_in given) view in
       let drawn = has_flag (codes "draw-seed") given in
-      let of_input = is_input (first_of (codes "FILE") given) in
-      let count = length (unwrap_or (all_of (codes "FILE") given) []) in
-      let round = number_or 1 (one_of (codes "round") given) in
+      let of_input = reads_in given in
+      let how = manner_in given in
+      let names = names_in given in
       let u = streams None o e in
       let v = streams None p f in
       let none : TellsNote e e = inl (Keeps-refl e) in
       let may = may_no_memory None o p e f kept told in
-      either (bytes_eq name (codes "asm")) _ _ (by_no_memory given (λ s. EndsAsmOf of_input (settings_of s) NoMemory (streams i o e) (streams i p f)) (λ s. asm_no_memory of_input (settings_of s)))
-      (either (bytes_eq name (codes "check")) _ _ (by_no_memory given (λ s. EndsCheck count (settings_of s) NoMemory u v) (λ s. check_no_memory count (settings_of s)))
-      (either (bytes_eq name (codes "fight")) _ _ (by_no_memory given (λ s. EndsFight shown (settings_of s) NoMemory u v) (λ s. fight_no_memory shown (settings_of s)))
+      either (bytes_eq name (codes "asm")) _ _ (by_no_memory given (λ s. EndsAsmFrom of_input (settings_of s) NoMemory (streams i o e) (streams i p f)) (λ s. asm_no_memory of_input (settings_of s)))
+      (either (bytes_eq name (codes "check")) _ _ (by_no_memory given (λ s. EndsCheck how names (settings_of s) NoMemory u v) (λ s. check_no_memory how names (settings_of s)))
+      (either (bytes_eq name (codes "fight")) _ _ (by_no_memory given (λ s. FightEnds given shown (settings_of s) NoMemory u v) (λ s. inr (kept, told)))
       (either (bytes_eq name (codes "create")) _ _ (by_no_memory given (λ s. Ends (MayCreate drawn s) NoMemory u v) (λ s. may (MayCreate drawn s) (create_no_memory drawn s)))
-      (either (bytes_eq name (codes "submit")) _ _ (e, none, source_no_memory i o p e f kept told (SaysReply shown))
+      (either (bytes_eq name (codes "submit")) _ _ (e, none, source_no_memory i o p e f kept told of_input (SaysReply shown))
       (either (bytes_eq name (codes "show")) _ _ (e, none, may (Answers (SaysShown shown (sight_in given))) refl)
-      (either (bytes_eq name (codes "audit")) _ _ (e, none, may (Answers SaysAudit) refl)
+      (either (bytes_eq name (codes "audit")) _ _ (e, none, may (Answers (SaysAudit shown)) refl)
       (either (bytes_eq name (codes "migrate")) _ _ (may (Answers (SaysLine migrated_line)) refl)
       (either (bytes_eq name (codes "page")) _ _ (e, none, may (Answers SaysPage) refl)
       (either (bytes_eq name (codes "serve")) _ _ (e, none, serve_no_memory (settings_of (settings_in given)))
-      (either (bytes_eq name (codes "replay")) _ _ (by_no_memory given (λ s. EndsReplay round (settings_of s) NoMemory u v) (λ s. replay_no_memory round (settings_of s)))
-      (either (bytes_eq name (codes "try")) _ _ (e, none, source_no_memory i o p e f kept told (SaysTrial shown))
+      (either (bytes_eq name (codes "replay")) _ _ (by_no_memory given (λ s. ReplayEnds given (settings_of s) NoMemory u v) (λ s. inr (kept, told)))
+      (either (bytes_eq name (codes "try")) _ _ (e, none, source_no_memory i o p e f kept told of_input (SaysTrial shown))
       (either (bytes_eq name (codes "copy")) _ _ (e, none, may (Answers (SaysCopied (has_flag (codes "audit") given))) refl)
       (either (bytes_eq name (codes "reseed")) _ ⊤ (e, none, may MayReseed tt) tt)))))))))))))
 
@@ -285,8 +343,14 @@ module _ (i o p e f : Option (List ℕ)) (status : Status) where
   wrong_without (NoRequest.Help text) is ends = absurd is
   wrong_without (NoRequest.WordFault text) is ends = inl ends.0
 
+  -- help and the version end so, or out of memory
+  pub help_without : (none : NoRequest) → IsHelp none → EndsWithout none status (streams None o e) (streams None p f) → EndsHelp status
+  help_without NoRequest.Memory is ends = subst EndsHelp (sym ends.1.ends) tt
+  help_without (NoRequest.Help text) is ends = ends
+  help_without (NoRequest.WordFault text) is ends = absurd is
+
   -- at a fault of the arguments nothing is read, and nothing is written on the output
   pub fault_without : (none : NoRequest) → EndsWithout none status (streams None o e) (streams None p f) → status ≡ WordFault → Keeps i i × Keeps o p
   fault_without NoRequest.Memory ends is = absurd (memory_is_no_fault status ends.1.ends is)
-  fault_without (NoRequest.Help text) ends is = absurd (ends is)
+  fault_without (NoRequest.Help text) ends is = absurd (subst EndsHelp is ends)
   fault_without (NoRequest.WordFault text) ends is = (Keeps-refl i, ends.1)

@@ -1,4 +1,5 @@
 mod Carried
+mod JsonLines
 mod Logged
 mod Performed
 mod Replies

@@ -1,7 +1,7 @@
 -- A request whose command was performed, and what that came to was delivered: for `fulfil_under`.
-use Rattle.std.proofs.Common.{◌≡◌, ◌≢◌, ℕ, List, false, Option, None, IfOk, sym, subst}
+use Rattle.std.proofs.Common.{◌≡◌, ℕ, Bool, List, Option, None, IfOk, sym, subst}
 use Rattle.{war_types.specs.declared.settings.RawSettings.RawSettings, koth_words.specs.declared.requests.{Request.Request, View.View}}
-use Rattle.koth_commands.specs.{Answer.{AnswerParts, Delivers}, Streams.{From, Streams, streams}, declared.status.Status.Status}
+use Rattle.koth_commands.specs.{Answer.{AnswerParts, Delivers}, Streams.{From, streams}, declared.status.Status.Status}
 use Rattle.{koth_keeping.specs.Answers.{Ends, Outcome}, koth_server.specs.{Hills.{AfterNote, AnswersSource, EndsSource, TellsNote}, Run.{CommandEnds, EndsRequestUnder}}}
 use Rattle.koth_server.proofs.{Carried.request_ends, Statuses.{IsNone, delivered}}
 
@@ -28,9 +28,9 @@ module _ (settings : RawSettings) (view : View) (request asked : Request) (statu
       ended May words may (so (n, note, record { outcome = outcome; may = subst May (sym same) may; delivered = sent }))
 
   -- after one, of a source
-  pub of_source : (Says : List ℕ → AnswerParts → Type 0) → ((d : Outcome) → From false (λ u v. AnswersSource Says u v d) i j → IfOk d IsNone) → TellsNote e n
-      → (AfterNote (EndsSource false Says status) (streams i o e) (streams j p f) → EndsSo) → From false (λ u v. AnswersSource Says u v found) i j
+  pub of_source : (of_input : Bool) (Says : List ℕ → AnswerParts → Type 0) → ((d : Outcome) → From of_input (λ u v. AnswersSource Says u v d) i j → IfOk d IsNone) → TellsNote e n
+      → (AfterNote (EndsSource of_input Says status) (streams i o e) (streams j p f) → EndsSo) → From of_input (λ u v. AnswersSource Says u v found) i j
       → EndsRequestUnder settings view request status (streams i o e) (streams j p f)
-  of_source Says words note so may =
-      let May : Outcome → Type 0 = λ d. From false (λ u v. AnswersSource Says u v d) i j in
+  of_source of_input Says words note so may =
+      let May : Outcome → Type 0 = λ d. From of_input (λ u v. AnswersSource Says u v d) i j in
       ended May words may (so (n, note, record { outcome = outcome; may = subst May (sym same) may; delivered = sent }))

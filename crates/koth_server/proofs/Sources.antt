@@ -1,5 +1,5 @@
 -- What is answered to a source, from how it was read: for `submit` and `try`.
-use Rattle.{std.proofs.Common.{◌≡◌, ◌⊎◌, ℕ, Bool, true, false, List, [], Option, None, Ok, Err, inl, inr, ap, refl}, std.proofs.KnownBytes.{Consumes-nil, Keeps-refl}, std.specs.Io.KnownBytes.Consumes}
+use Rattle.{std.proofs.Common.{◌≡◌, ℕ, Bool, true, false, List, [], Option, None, Ok, Err, inl, inr, ap}, std.proofs.KnownBytes.{Consumes-nil, Keeps-refl}, std.specs.Io.KnownBytes.Consumes}
 use Rattle.koth_commands.specs.{Answer.AnswerParts, Streams.{From, Takes}, Trouble.{IsReadFault, no_memory}, declared.trouble.{Fault.Fault, Trouble.Trouble}}
 use Rattle.{koth_files.specs.Trouble.{IsOfHill, is_of_settings}, koth_server.specs.Hills.AnswersSource}
 

@@ -1,8 +1,8 @@
 -- No answer and no fault ends as one of the arguments does.
-use Rattle.std.proofs.Common.{◌≡◌, ◌≢◌, ◌⊎◌, ◌∙◌, ℕ, Bool, true, false, List, Option, Result, Ok, Err, None, Some, IfOk, IsErrAnd, sym, ap, inl, inr}
+use Rattle.std.proofs.Common.{◌≡◌, ◌≢◌, ◌⊎◌, ◌∙◌, ℕ, Bool, true, false, List, Option, Result, Ok, Err, None, Some, IfOk, sym, ap, inl, inr}
 use Rattle.{war_types.specs.declared.fault.AsmFault.AsmFault, war_types.specs.declared.settings.{RawSettings.RawSettings, SettingsFault.SettingsFault}, war_types.specs.Settings.settings_of}
 use Rattle.{koth_hill.specs.declared.untrue.Untrue.Untrue, hill_store.specs.declared.reply.Reply.Reply}
-use Rattle.koth_commands.specs.{Answer.{AnswerParts, Delivers, answer_parts}, Streams.From, Trouble.fault_status, declared.{status.Status.Status, trouble.{Fault.Fault, Trouble.Trouble}}}
+use Rattle.koth_commands.specs.{Answer.{AnswerParts, Delivers, answer_parts}, Streams.From, Trouble.fault_status, declared.{status.Status.Status, trouble.{Fault.Fault}}}
 use Rattle.koth_keeping.specs.{Answers.{Answers, AnswersGiven, Outcome, SaysLine}, Audit.{SaysAudit, audit_answer}, Copies.{MayReseed, SaysCopied}, Migration.migrated_line, Created.{MayCreate, SaysCreated}, Seed.seed_hint}
 use Rattle.{koth_words.specs.declared.requests.View.View, koth_server.specs.{Hills.{AnswersSource, SaysReply, SaysShown, Sight}, Trials.SaysTrial, Page.SaysPage, ReplyStatus.reply_status}}
 
@@ -41,12 +41,12 @@ answers Says never (Err trouble) may = tt
 pub done : (text note : List ℕ) (answer : AnswerParts) → answer ≡ answer_parts Status.Done text note → IsNone answer
 done text note answer same is = absurd (cc)
 
-found_none : (found : Option Untrue) → IsNone (audit_answer found)
-found_none None is = absurd (cc)
-found_none (Some untrue) is = absurd (cc)
+found_none : (view : View) (found : Option Untrue) → IsNone (audit_answer view found)
+found_none view None is = absurd (cc)
+found_none view (Some untrue) is = absurd (cc)
 
-found_so : (found : Option Untrue) (answer : AnswerParts) → answer ≡ audit_answer found → IsNone answer
-found_so found answer same is = found_none found (ap (λ (a : AnswerParts). a.status) (sym same) ∙ is)
+found_so : (view : View) (found : Option Untrue) (answer : AnswerParts) → answer ≡ audit_answer view found → IsNone answer
+found_so view found answer same is = found_none view found (ap (λ (a : AnswerParts). a.status) (sym same) ∙ is)
 
 reply_none : (reply : Reply) → reply_status reply ≢ Status.WordFault
 reply_none (Reply.Placed entry rank score) is = absurd (cc)
@@ -70,13 +70,13 @@ created true given outcome (inl (seed, is_seed, may)) = made _ (settings_of (rec
 created true given (Ok answer) (inr failed) = absurd failed
 created true given (Err trouble) (inr failed) = tt
 
-pub audited : (outcome : Outcome) → Answers SaysAudit outcome → IfOk outcome IsNone
-audited = answers SaysAudit (λ answer says. found_so says.1.0 answer says.1.2)
+pub audited : (view : View) (outcome : Outcome) → Answers (SaysAudit view) outcome → IfOk outcome IsNone
+audited view = answers (SaysAudit view) (λ answer says. found_so view says.1.0 answer says.1.2)
 
 pub copied : (asked : Bool) (outcome : Outcome) → Answers (SaysCopied asked) outcome → IfOk outcome IsNone
 copied asked = answers (SaysCopied asked) (λ answer says. elim says.1 [
   | inl line ↦ done _ _ answer line.1
-  | inr found ↦ found_so (Some found.1.0) answer found.1.2
+  | inr found ↦ found_so View.Plain (Some found.1.0) answer found.1.2
 ])
 
 from_source : (of_input : Bool) (Says : List ℕ → AnswerParts → Type 0) (i j : Option (List ℕ)) (outcome : Outcome)

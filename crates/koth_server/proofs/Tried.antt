@@ -3,7 +3,7 @@ use Rattle.std.proofs.Common.{◌≡◌, ◌⊎◌, ℕ, List, [], Option, None,
 use Rattle.{koth_hill.specs.{Kept.Kept, declared.verdict.Verdict.Verdict}, sector_disk.specs.Facts.DeviceFacts}
 use Rattle.hill_store.specs.{declared.reply.Reply.Reply, Earned.kept_reply, Read.{IsJudged, IsTried}, Seen.{Seen, Submits}}
 use Rattle.{koth_words.specs.declared.requests.View.View, koth_commands.specs.Answer.AnswerParts}
-use Rattle.koth_server.specs.{Hills.{AnswersReply, IsDue}, Trials.{IsTrialText, SaysTrial, Tried}}
+use Rattle.koth_server.specs.{Hills.AnswersReply, Json.IsDue, Trials.{IsTrialText, SaysTrial, Tried}}
 
 -- what holds on success, seen another way
 pub if_ok : {T E : Type 0} (result : Result T E) (P Q : T → Type 0) → ((x : T) → P x → Q x) → IfOk result P → IfOk result Q
@@ -14,11 +14,12 @@ if_ok (Err e) P Q holds p = tt
 told_none : (view : View) (hill : Kept) (judged : Verdict) → IsTrialText view hill judged []
 told_none View.Plain hill judged = refl
 told_none View.Table hill judged = inl refl
+told_none View.Json hill judged = inl refl
 
 module _ {D : Type 0} (facts : DeviceFacts D) (store : Seen D) (source : List ℕ) where
   -- the answer that foretells
   pub foretold : (view : View) (judged : Verdict) (reply : Reply) (more : List ℕ) (answer : AnswerParts) → IsDue store.hill source judged
-      → reply ≡ kept_reply store.hill source → IsTrialText view store.hill judged more → AnswersReply reply more answer ⊎ AnswersReply reply [] answer
+      → reply ≡ kept_reply store.hill source → IsTrialText view store.hill judged more → AnswersReply view reply more answer ⊎ AnswersReply view reply [] answer
       → Tried facts store source view answer
   foretold view judged reply more answer due earned told (inl whole) =
       (reply, more, inl (record { judged = judged; due = due; earned = earned; told = told }), whole)
@@ -27,7 +28,7 @@ module _ {D : Type 0} (facts : DeviceFacts D) (store : Seen D) (source : List �
 
   -- or the reply of a submission that changes nothing
   pub answered : (view : View) (reply : Reply) (answer : AnswerParts) → Submits facts store source reply store
-      → AnswersReply reply [] answer ⊎ AnswersReply reply [] answer → Tried facts store source view answer
+      → AnswersReply view reply [] answer ⊎ AnswersReply view reply [] answer → Tried facts store source view answer
   answered view reply answer submits (inl line) = (reply, [], inr (submits, refl), line)
   answered view reply answer submits (inr line) = (reply, [], inr (submits, refl), line)
 

@@ -1,12 +1,13 @@
 -- What the commands on a hill in a file answer, and how they end.
 use Rattle.std.specs.{Prelude.{◌≡◌, ◌≢◌, ◌⊎◌, ℕ, Bool, if◌then◌else◌, List, [], Option, ◌++◌, Result, Ok, Err, codes, decimal}, Io.KnownBytes.{Appends, Consumes, Keeps}}
-use Rattle.war_types.specs.{Warrior.WarriorParts, declared.{fault.AsmFault.AsmFault, settings.{RawSettings.RawSettings, SettingsFault.SettingsFault}}}
-use Rattle.{redcode_asm.specs.Assembly.assembly, koth_hill.specs.{Kept.{Kept, table_kept, verdict_kept}, declared.verdict.Verdict.Verdict}, sector_disk.specs.Facts.DeviceFacts}
+use Rattle.war_types.specs.declared.{fault.AsmFault.AsmFault, settings.{RawSettings.RawSettings, SettingsFault.SettingsFault}}
+use Rattle.{koth_hill.specs.{Kept.{Kept, table_kept}, declared.verdict.Verdict.Verdict}, sector_disk.specs.Facts.DeviceFacts}
 use Rattle.{hill_store.specs.{Seen.{Seen, Submits}, declared.reply.Reply.Reply}, koth_protocol.specs.{Matches.matches_text, Table.show_text, Written.WritesPart}, koth_session.specs.Reply.reply_line}
-use Rattle.{koth_hills.specs.Settings.settings_text, koth_words.specs.{declared.requests.Shown.Shown, declared.requests.View.View}}
-use Rattle.koth_views.specs.{Standing.hill_view, Matrix.matches_view, Placing.placing_view, Fallen.fallen_view, Roster.roster, declared.entrants.Entered.Entered}
+use Rattle.{koth_hills.specs.Settings.settings_text, koth_json.specs.Hill.hill_text, koth_words.specs.{Settings.given_as, declared.requests.Shown.Shown, declared.requests.View.View}}
+use Rattle.koth_views.specs.{Standing.hill_view, Matrix.matches_view, Placed.fell_text, Fallen.fallen_view, Roster.roster, declared.entrants.Entered.Entered}
 use Rattle.koth_commands.specs.{Answer.{AnswerParts, EndsGiven, answer_parts}, Told.{TellsWord, WritesSome}, Trouble.Tells, Streams.{From, Streams, Takes}, declared.{status.Status.Status, trouble.Trouble.Trouble}}
-use Rattle.{koth_files.specs.Trouble.IsOfHill, koth_keeping.specs.Answers.{Ends, Outcome}, koth_server.specs.ReplyStatus.reply_status}
+use Rattle.{koth_files.specs.Trouble.IsOfHill, koth_keeping.specs.Answers.{Ends, Outcome}}
+use Rattle.koth_server.specs.{Json.{AreMatches, IsDue, IsJsonText}, Placing.placing_view, ReplyStatus.reply_status}
 
 -- the line that names the port
 abbrev pub listening_line : ℕ → List ℕ
@@ -19,42 +20,47 @@ Announces old new = (port : ℕ) × Appends old new (listening_line port)
 abbrev pub AnnouncesPart : Option (List ℕ) → Option (List ℕ) → Type 0
 AnnouncesPart old new = (port : ℕ) × WritesPart old new (listening_line port)
 
--- a submission of the source to this hill is due this verdict
-abbrev pub IsDue : Kept → List ℕ → Verdict → Type 0
-IsDue k source judged = (w : WarriorParts) × (assembly k.settings source ≡ Ok w) × (judged ≡ verdict_kept k w)
-
--- for people, that the warrior of a source fell, by who stood before it and the hill after it, and then its matches with all on the hill
-pub record TellsFallen (stood : List Entered) (new : Kept) (source : List ℕ) (reply : Reply) (text : List ℕ) : Type 0 where
+-- for people, that the warrior of a source fell, and then its matches with all on the hill
+pub record TellsFallen (new : Kept) (source : List ℕ) (reply : Reply) (text : List ℕ) : Type 0 where
   pub entry : ℕ
   pub score : ℕ
   pub fell : reply ≡ Reply.Fell entry score
   pub judged : Verdict
   pub due : IsDue new source judged
-  pub told : text ≡ placing_view stood new reply ++ fallen_view new judged.bouts
+  pub told : text ≡ fell_text entry score ++ fallen_view new judged.bouts
 
 -- for people, what became of the warrior of a source; if it fell with its matches, unless there was no memory to fight them again
 abbrev pub IsOutcome : List Entered → Kept → List ℕ → Reply → List ℕ → Type 0
-IsOutcome stood new source reply text = (text ≡ placing_view stood new reply) ⊎ TellsFallen stood new source reply text
+IsOutcome stood new source reply text = (text ≡ placing_view stood new reply) ⊎ TellsFallen new source reply text
 
--- what stands after the line of a reply to a source that turned the old hill into the new one: for people what became of its warrior, unless
--- there was no memory for that
+-- what stands after the line of a reply to a source that turned the old hill into the new one: for people what became of its warrior, as lines
+-- of JSON its matches, unless there was no memory for that
 abbrev pub IsPlacing : View → Kept → Kept → List ℕ → Reply → List ℕ → Type 0
 IsPlacing View.Plain old new source reply more = more ≡ []
 IsPlacing View.Table old new source reply more = (more ≡ []) ⊎ IsOutcome (roster old) new source reply more
+IsPlacing View.Json old new source reply more = (more ≡ []) ⊎ AreMatches new source reply more
 
--- the note of an answer to a source: some text that explains a refusal, and else nothing
-abbrev pub IsNote : Reply → List ℕ → Type 0
-IsNote reply note = ((fault : AsmFault) → reply ≢ Reply.Refused fault) → note ≡ []
+-- the text of an answer to a source: the line of its reply and this text after it, and of a refusal as JSON a line that has the reason too
+abbrev pub IsReplyText : View → Reply → List ℕ → List ℕ → Type 0
+IsReplyText View.Plain reply more text = text ≡ reply_line reply ++ more
+IsReplyText View.Table reply more text = text ≡ reply_line reply ++ more
+IsReplyText View.Json reply more text = IsJsonText reply more text
 
--- the answer to a source: the line of its reply and this text after it
-pub record AnswersReply (reply : Reply) (more : List ℕ) (answer : AnswerParts) : Type 0 where
+-- the note of an answer to a source: some text that explains a refusal, and else nothing; beside lines of JSON nothing
+abbrev pub IsNote : View → Reply → List ℕ → Type 0
+IsNote View.Plain reply note = ((fault : AsmFault) → reply ≢ Reply.Refused fault) → note ≡ []
+IsNote View.Table reply note = ((fault : AsmFault) → reply ≢ Reply.Refused fault) → note ≡ []
+IsNote View.Json reply note = note ≡ []
+
+-- the answer to a source: its reply in this view and this text after it
+pub record AnswersReply (view : View) (reply : Reply) (more : List ℕ) (answer : AnswerParts) : Type 0 where
   pub ends : answer.status ≡ reply_status reply
-  pub text : answer.text ≡ reply_line reply ++ more
-  pub note : IsNote reply answer.note
+  pub text : IsReplyText view reply more answer.text
+  pub note : IsNote view reply answer.note
 
 -- the answer to a submission that turned the old hill into the new one
 abbrev pub SaysSubmitted : View → Kept → Kept → List ℕ → Reply → AnswerParts → Type 0
-SaysSubmitted view old new source reply answer = (more : List ℕ) × IsPlacing view old new source reply more × AnswersReply reply more answer
+SaysSubmitted view old new source reply answer = (more : List ℕ) × IsPlacing view old new source reply more × AnswersReply view reply more answer
 
 -- the answer to the submission of a source to a store
 abbrev pub Submitted : {D : Type 0} → DeviceFacts D → Seen D → List ℕ → Seen D → View → AnswerParts → Type 0
@@ -95,6 +101,7 @@ shown_table matches hill = if matches then hill_view hill ++ (codes "\n" ++ matc
 abbrev pub shown_text : View → Bool → Kept → List ℕ
 shown_text View.Plain matches hill = shown_lines matches hill
 shown_text View.Table matches hill = shown_table matches hill
+shown_text View.Json matches hill = hill_text (given_as hill.settings) matches hill
 
 -- the table, or the settings in its place
 abbrev pub sight_text : View → Sight → Kept → List ℕ

@@ -1,5 +1,9 @@
 -- How the program ends with a reply.
 pub mod ReplyStatus
+-- What became of a submission.
+pub mod Placing
+-- The lines of JSON of a submission.
+pub mod Json
 -- What each command on a hill writes and how it ends.
 pub mod Hills
 -- What `try` writes, and how it ends.

@@ -1,7 +1,7 @@
 -- The pages that browsers ask for.
 use Rattle.std.specs.Prelude.{◌≡◌, ⊤, ℕ, ◌<◌, Bool, true, false, List, Some, slice_get}
 use Rattle.{war_types.specs.Warrior.WarriorParts, koth_hill.specs.{Hill.{Member, member_of}, Kept.Kept}, koth_http.specs.declared.target.Page.Page}
-use Rattle.{koth_page.specs.{Page.hill_page, declared.links.Links.Links}, koth_commands.specs.Replay.{has_round, IsRoundText}}
+use Rattle.{koth_page.specs.{Page.hill_page, declared.links.Links.Links}, koth_contests.specs.Replay.{has_round, IsRoundText}}
 
 -- this warrior is on the hill, under this entry
 pub record HasWarrior (members : List Member) (entry : ℕ) (warrior : WarriorParts) : Type 0 where

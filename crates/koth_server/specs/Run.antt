@@ -1,10 +1,11 @@
 -- How a run ends.
-use Rattle.std.specs.{Prelude.{◌≡◌, ◌≢◌, ◌⊎◌, ℕ, false, List, [], length, Option, codes, unwrap_or}, Io.KnownBytes.Keeps}
-use Rattle.{clap.specs.Words.{Row, Text, all_of, one_of}, war_types.specs.{Settings.settings_of, declared.settings.RawSettings.RawSettings}, koth_words.specs.Options.number_or}
-use Rattle.koth_words.specs.{Words.{draw_seed_named, given_by, given_of, has_flag, matches_in, reads_input, settings_named, view_named, AreTaken, AreWrong, AsksFor}, declared.requests.NoRequest.NoRequest}
+use Rattle.std.specs.{Prelude.{◌≡◌, ◌≢◌, ◌⊎◌, ◌||◌, ⊤, ℕ, List, Option, Result, codes, is_some, map, option_map, unwrap_or}, Io.KnownBytes.Keeps}
+use Rattle.{clap.specs.Words.{Row, first_of}, war_types.specs.{Settings.settings_of, declared.settings.{RawSettings.RawSettings, SettingsFault.SettingsFault}}, koth_words.specs.Sources.{Place, place, place_named, places_named}}
+use Rattle.{koth_words.specs.declared.requests.{Fighters.Fighters, Watched.Watched}, koth_contests.specs.{Fight.EndsFight, Replay.EndsReplay}}
+use Rattle.koth_words.specs.{Words.{draw_seed_named, form_in, given_by, given_of, has_flag, has_option, matches_in, reads_input, round_in, settings_named, view_named, AreFighters, AreTaken, AreWrong, AskForHelp, AsksFor}, declared.requests.NoRequest.NoRequest}
 use Rattle.koth_words.specs.{declared.requests.Request.Request, declared.requests.Request.TheVariants.{Asm, Check, Fight, Create, Submit, Show, Serve, Audit, Migrate, Page, Replay, Try, Copy, Reseed}}
-use Rattle.{koth_words.specs.declared.requests.View.View, koth_commands.specs.{Asm.{EndsAsmFrom, EndsAsmOf}, Check.EndsCheck, Fight.EndsFight, Replay.EndsReplay}}
-use Rattle.koth_commands.specs.{Status.status_code, Streams.{Streams, unread}, Trouble.{Tells, no_memory}, declared.status.Status.Status}
+use Rattle.{koth_words.specs.declared.requests.View.View, koth_commands.specs.{Asm.EndsAsmFrom, Check.{EndsCheck, names_of}, Report.{Manner, manner_of}}}
+use Rattle.koth_commands.specs.{Status.status_code, Streams.{Streams, is_input, unread}, Trouble.{Tells, no_memory}, declared.status.Status.Status}
 use Rattle.koth_keeping.specs.{Answers.{Answers, Ends, SaysLine}, Created.MayCreate, Audit.SaysAudit, Copies.{MayReseed, SaysCopied}, Migration.migrated_line}
 use Rattle.koth_server.specs.{Hills.{AfterNote, EndsServe, EndsSource, SaysReply, SaysShown, Sight, sight_of}, Trials.SaysTrial, Page.SaysPage}
 use Rattle.koth_server.specs.Settled.{EndsBy, EndsSettled}
@@ -23,21 +24,23 @@ sight_in rows = record { matches = matches_in rows; settings = has_flag (codes "
 
 -- how a request's command ends under these settings, if it takes any, and if tables are in this view unless it asks for one
 abbrev pub CommandEnds : RawSettings → View → Request → Status → Streams → Streams → Type 0
-CommandEnds settings view (Asm given source) status before after = EndsAsmFrom source (settings_of settings) status before after
+CommandEnds settings view (Asm given source) status before after = EndsAsmFrom (is_input source) (settings_of settings) status before after
 CommandEnds settings view (Check given checked) status before after =
-    EndsCheck (length checked.files.items) (settings_of settings) status (unread before) (unread after)
+    EndsCheck (manner_of checked) (names_of checked) (settings_of settings) status (unread before) (unread after)
 CommandEnds settings view (Fight given files) status before after =
-    EndsFight (viewed files.view view) (settings_of settings) status (unread before) (unread after)
+    EndsFight files (viewed files.view view) (settings_of settings) status (unread before) (unread after)
 CommandEnds settings view (Create given creation) status before after = Ends (MayCreate creation.draw_seed settings) status (unread before) (unread after)
-CommandEnds settings view (Submit files) status before after = AfterNote (EndsSource false (SaysReply (viewed files.view view)) status) before after
+CommandEnds settings view (Submit files) status before after = AfterNote (EndsSource (is_input files.source) (SaysReply (viewed files.view view)) status) before after
 CommandEnds settings view (Show shown) status before after =
     AfterNote (Ends (Answers (SaysShown (viewed shown.view view) (sight_of shown))) status) (unread before) (unread after)
-CommandEnds settings view (Audit file) status before after = AfterNote (Ends (Answers SaysAudit) status) (unread before) (unread after)
+CommandEnds settings view (Audit audited) status before after =
+    AfterNote (Ends (Answers (SaysAudit (viewed audited.view view))) status) (unread before) (unread after)
 CommandEnds settings view (Migrate files) status before after = Ends (Answers (SaysLine migrated_line)) status (unread before) (unread after)
 CommandEnds settings view (Page file) status before after = AfterNote (Ends (Answers SaysPage) status) (unread before) (unread after)
 CommandEnds settings view (Serve given service) status before after = AfterNote (EndsServe (settings_of given) status) (unread before) (unread after)
-CommandEnds settings view (Replay given watched) status before after = EndsReplay watched.round (settings_of settings) status (unread before) (unread after)
-CommandEnds settings view (Try files) status before after = AfterNote (EndsSource false (SaysTrial (viewed files.view view)) status) before after
+CommandEnds settings view (Replay given watched) status before after =
+    EndsReplay watched.round (is_some watched.page) (settings_of settings) status (unread before) (unread after)
+CommandEnds settings view (Try files) status before after = AfterNote (EndsSource (is_input files.source) (SaysTrial (viewed files.view view)) status) before after
 CommandEnds settings view (Copy files) status before after = AfterNote (Ends (Answers (SaysCopied files.audit)) status) (unread before) (unread after)
 CommandEnds settings view (Reseed files) status before after = AfterNote (Ends MayReseed status) (unread before) (unread after)
 
@@ -50,48 +53,87 @@ abbrev pub EndsRequest : View → Request → Status → Streams → Streams →
 EndsRequest view request status before after =
     EndsSettled (given_of request) (λ settings. CommandEnds settings view request status before after) status before after × (status ≢ Status.WordFault)
 
+-- how a run ends that was asked for help or for the version: that is written, or the output failed, or memory ran out
+abbrev pub EndsHelp : Status → Type 0
+EndsHelp Status.Done = ⊤
+EndsHelp Status.Refused = ⊥
+EndsHelp Status.WordFault = ⊥
+EndsHelp Status.StreamFault = ⊤
+EndsHelp Status.NoMemory = ⊤
+
 -- how a run ends at arguments that ask for no command; the input is not read
 abbrev pub EndsWithout : NoRequest → Status → Streams → Streams → Type 0
-EndsWithout (NoRequest.Help text) status before after = status ≢ Status.WordFault
+EndsWithout (NoRequest.Help text) status before after = EndsHelp status
 EndsWithout (NoRequest.WordFault text) status before after = (status ≡ Status.WordFault) × Keeps before.output after.output
 EndsWithout NoRequest.Memory status before after = Keeps before.output after.output × Tells no_memory status before.errors after.errors
 
--- the files that the arguments name for `check`
-abbrev pub files_named : List (List ℕ) → List Text
-files_named given = unwrap_or (all_of (codes "FILE") (given_by given)) []
+-- what messages call a source at this place
+abbrev pub name_at : Place → List ℕ
+name_at (Place.Input name) = name
+name_at (Place.File file) = file
 
--- the round that the arguments name for `replay`, counted from 1
-abbrev pub round_named : List (List ℕ) → ℕ
-round_named given = number_or 1 (one_of (codes "round") (given_by given))
+-- how the words ask for sources to be reported, and what messages call these
+abbrev pub manner_in : List Row → Manner
+manner_in rows = record {
+  form = form_in rows;
+  warnings = has_flag (codes "warnings") rows || has_option (codes "deny") rows;
+  deny = has_option (codes "deny") rows;
+}
+
+abbrev pub names_in : List Row → List (List ℕ)
+names_in rows = map name_at (places_named (codes "SOURCE") rows)
+
+-- memory ran out, and nothing is on the output
+abbrev pub LacksMemory : Status → Streams → Streams → Type 0
+LacksMemory status before after = Keeps before.output after.output × Tells no_memory status before.errors after.errors
+
+-- how `fight` of what these words name ends
+abbrev pub FightEnds : List Row → View → Result RawSettings SettingsFault → Status → Streams → Streams → Type 0
+FightEnds rows view settings status before after =
+    ((fighters : Fighters) × AreFighters rows fighters × EndsFight fighters view settings status before after) ⊎ LacksMemory status before after
+
+-- the sources, the round and the file for the page are those of these words
+pub record AreWatched (rows : List Row) (watched : Watched) : Type 0 where
+  pub older : place watched.older ≡ place_named (codes "MINE") rows
+  pub younger : place watched.younger ≡ place_named (codes "OTHER") rows
+  pub round : watched.round ≡ round_in rows
+  pub page : option_map (λ file. file.now) watched.page ≡ first_of (codes "output") rows
+
+-- how `replay` of what these words name ends
+abbrev pub ReplayEnds : List Row → Result RawSettings SettingsFault → Status → Streams → Streams → Type 0
+ReplayEnds rows settings status before after =
+    ((watched : Watched) × AreWatched rows watched × EndsReplay watched.round (is_some watched.page) settings status before after) ⊎ LacksMemory status before after
 
 -- How a run with these arguments ends, if tables are in this view unless the arguments ask for one: as the command that they name does, under
 -- the settings that they give. Only wrong arguments end as a fault of the arguments, and then nothing is read, and nothing is written on the
 -- output.
 pub record EndsRun (view : View) (given : List (List ℕ)) (status : Status) (before after : Streams) : Type 0 where
-  pub asm : AsksFor (codes "asm") given
-      → EndsBy (given_by given) (λ s. EndsAsmOf (reads_input given) (settings_of s) status before after) status before after
-  pub check : AsksFor (codes "check") given
-      → EndsBy (given_by given) (λ s. EndsCheck (length (files_named given)) (settings_of s) status (unread before) (unread after)) status before after
-  pub fight : AsksFor (codes "fight") given
-      → EndsBy (given_by given) (λ s. EndsFight (viewed (view_named given) view) (settings_of s) status (unread before) (unread after)) status before after
-  pub create : AsksFor (codes "create") given
+  pub asm : AsksFor view (codes "asm") given
+      → EndsBy (given_by given) (λ s. EndsAsmFrom (reads_input given) (settings_of s) status before after) status before after
+  pub check : AsksFor view (codes "check") given
+      → EndsBy (given_by given) (λ s. EndsCheck (manner_in (given_by given)) (names_in (given_by given)) (settings_of s) status (unread before) (unread after)) status before after
+  pub fight : AsksFor view (codes "fight") given
+      → EndsBy (given_by given) (λ s. FightEnds (given_by given) (viewed (view_named given) view) (settings_of s) status (unread before) (unread after)) status before after
+  pub create : AsksFor view (codes "create") given
       → EndsBy (given_by given) (λ s. Ends (MayCreate (draw_seed_named given) s) status (unread before) (unread after)) status before after
-  pub submit : AsksFor (codes "submit") given
-      → AfterNote (EndsSource false (SaysReply (viewed (view_named given) view)) status) before after
-  pub show : AsksFor (codes "show") given
+  pub submit : AsksFor view (codes "submit") given
+      → AfterNote (EndsSource (reads_input given) (SaysReply (viewed (view_named given) view)) status) before after
+  pub show : AsksFor view (codes "show") given
       → AfterNote (Ends (Answers (SaysShown (viewed (view_named given) view) (sight_in (given_by given)))) status) (unread before) (unread after)
-  pub audit : AsksFor (codes "audit") given → AfterNote (Ends (Answers SaysAudit) status) (unread before) (unread after)
-  pub migrate : AsksFor (codes "migrate") given → Ends (Answers (SaysLine migrated_line)) status (unread before) (unread after)
-  pub page : AsksFor (codes "page") given → AfterNote (Ends (Answers SaysPage) status) (unread before) (unread after)
-  pub serve : AsksFor (codes "serve") given
+  pub audit : AsksFor view (codes "audit") given
+      → AfterNote (Ends (Answers (SaysAudit (viewed (view_named given) view))) status) (unread before) (unread after)
+  pub migrate : AsksFor view (codes "migrate") given → Ends (Answers (SaysLine migrated_line)) status (unread before) (unread after)
+  pub page : AsksFor view (codes "page") given → AfterNote (Ends (Answers SaysPage) status) (unread before) (unread after)
+  pub serve : AsksFor view (codes "serve") given
       → AfterNote (EndsServe (settings_of (settings_named given)) status) (unread before) (unread after)
-  pub replay : AsksFor (codes "replay") given
-      → EndsBy (given_by given) (λ s. EndsReplay (round_named given) (settings_of s) status (unread before) (unread after)) status before after
-  pub trial : AsksFor (codes "try") given
-      → AfterNote (EndsSource false (SaysTrial (viewed (view_named given) view)) status) before after
-  pub copy : AsksFor (codes "copy") given
+  pub replay : AsksFor view (codes "replay") given
+      → EndsBy (given_by given) (λ s. ReplayEnds (given_by given) (settings_of s) status (unread before) (unread after)) status before after
+  pub trial : AsksFor view (codes "try") given
+      → AfterNote (EndsSource (reads_input given) (SaysTrial (viewed (view_named given) view)) status) before after
+  pub copy : AsksFor view (codes "copy") given
       → AfterNote (Ends (Answers (SaysCopied (has_flag (codes "audit") (given_by given)))) status) (unread before) (unread after)
-  pub reseed : AsksFor (codes "reseed") given → AfterNote (Ends MayReseed status) (unread before) (unread after)
-  pub words : AreTaken given → status ≢ Status.WordFault
-  pub wrong : AreWrong given → (status ≡ Status.WordFault) ⊎ (status ≡ Status.NoMemory)
+  pub reseed : AsksFor view (codes "reseed") given → AfterNote (Ends MayReseed status) (unread before) (unread after)
+  pub words : AreTaken view given → status ≢ Status.WordFault
+  pub wrong : AreWrong view given → (status ≡ Status.WordFault) ⊎ (status ≡ Status.NoMemory)
+  pub help : AskForHelp given → EndsHelp status
   pub word_fault : status ≡ Status.WordFault → Keeps before.input after.input × Keeps before.output after.output

@@ -6,8 +6,8 @@
 //! - `arguments` and `typed`: an argument that is no text, and standard input at a terminal, both before anything is read;
 //! - `program`: `run`, which carries out what the arguments of the command line ask for, by `koth_words`, and ends with a status;
 //! - `settled`: the settings under which a command is carried out;
-//! - `submit`, `trial`, `show`, `page`, `serve`: a command on a hill each; `outcome`: what became of a warrior, and `log`: what a service
-//!   reports;
+//! - `submit`, `trial`, `show`, `page`, `serve`: a command on a hill each; `outcome` and `json`: what became of a warrior, for people and as
+//!   lines of JSON, and `log`: what a service reports;
 //! - `pages`: the pages that browsers of a service ask for;
 //! - `damage`: what is told of a header that can't be read;
 //! - `host`: what a service goes on with when its device failed, and `ports`: where it listens;
@@ -26,6 +26,7 @@
 mod arguments;
 mod damage;
 mod host;
+mod json;
 mod log;
 mod outcome;
 mod page;

@@ -4,7 +4,7 @@ ghost use Rattle.std.specs.Prelude.{◌≡◌, IfOk, IfNone, IfSome, MatchOption
 ghost use Rattle.{war_types.specs.Warrior.Fits, koth_server.specs.Pages.{links_for, HasPage, HasRound, HasWarrior, IsOnHill, IsRoundOf, IsShown}};
 
 use hill_store::Store;
-use koth_commands::replay::{has_round, round_text};
+use koth_contests::replay::{has_round, round_text};
 use koth_hill::Hill;
 use koth_http::Page;
 use koth_page::{Links, hill_page};

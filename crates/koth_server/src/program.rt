@@ -13,10 +13,10 @@ use crate::trial::perform_try;
 use hill_file::TryLock;
 use koth_commands::asm::asm;
 use koth_commands::check::check;
-use koth_commands::fight::fight;
-use koth_commands::replay::replay;
 use koth_commands::trouble::Trouble;
-use koth_commands::{Cause, Failure, Source, Status, deliver, write_whole};
+use koth_commands::{Answer, Status, deliver, write_whole};
+use koth_contests::fight::fight;
+use koth_contests::replay::replay;
 use koth_keeping::{perform_audit, perform_copy, perform_create, perform_migrate, perform_reseed};
 use koth_service::LogWrite;
 use koth_words::{NoRequest, Request, View, parse};
@@ -77,9 +77,9 @@ where
         (streams (I.remaining input.old) (O.contents output.old) (E.contents errors.old))
         (streams (I.remaining input.new) (O.contents output.new) (E.contents errors.new)) }
 {
-    match parse(heap, words) {
+    match parse(heap, words, view) {
         Ok(request) => fulfil(rt, alloc, &request, view, input, output, errors),
-        Err(none) => answer_without(alloc, none, output, errors),
+        Err(none) => answer_without(heap, alloc, none, output, errors),
     }
 }
 
@@ -139,24 +139,14 @@ where
             return asm(rt, alloc, settings, source, input, output, errors);
         }
         Request::Check(_, ref checked) => {
-            return check(rt, alloc, settings, checked, output, errors);
+            return check(rt, alloc, settings, checked, input, output, errors);
         }
-        Request::Fight(_, files) => {
-            let view = viewed(files.view, view);
-            return fight(rt, alloc, settings, files, view, output, errors);
+        Request::Fight(_, ref fighters) => {
+            let view = viewed(fighters.view, view);
+            return fight(rt, alloc, settings, fighters, view, input, output, errors);
         }
         Request::Replay(_, watched) => {
-            let (older, younger) = (watched.older, watched.younger);
-            return replay(
-                rt,
-                alloc,
-                settings,
-                older,
-                younger,
-                watched.round,
-                output,
-                errors,
-            );
+            return replay(rt, alloc, settings, watched, input, output, errors);
         }
         Request::Serve(given, ref service) => {
             tell_lost_header(rt, alloc, service.hill, errors);
@@ -166,13 +156,13 @@ where
         Request::Migrate(files) => perform_migrate(rt, alloc, files),
         Request::Submit(files) => {
             tell_lost_header(rt, alloc, files.hill, errors);
-            let (source, view) = (Source::File(files.source), viewed(files.view, view));
-            perform_submit(rt, alloc, files.hill, files.wait, source, view, input)
+            let view = viewed(files.view, view);
+            perform_submit(rt, alloc, files.hill, files.wait, files.source, view, input)
         }
         Request::Try(files) => {
             tell_lost_header(rt, alloc, files.hill, errors);
-            let (source, view) = (Source::File(files.source), viewed(files.view, view));
-            perform_try(rt, alloc, files.hill, source, view, input)
+            let view = viewed(files.view, view);
+            perform_try(rt, alloc, files.hill, files.source, view, input)
         }
         Request::Show(shown) => {
             tell_lost_header(rt, alloc, shown.hill, errors);
@@ -182,9 +172,9 @@ where
             tell_lost_header(rt, alloc, hill, errors);
             perform_page(rt, alloc, hill)
         }
-        Request::Audit(hill) => {
-            tell_lost_header(rt, alloc, hill, errors);
-            perform_audit(rt, alloc, hill)
+        Request::Audit(audited) => {
+            tell_lost_header(rt, alloc, audited.hill, errors);
+            perform_audit(rt, alloc, audited.hill, viewed(audited.view, view))
         }
         Request::Copy(files) => {
             tell_lost_header(rt, alloc, files.hill, errors);
@@ -195,11 +185,24 @@ where
             perform_reseed(rt, alloc, files)
         }
     };
-    deliver(alloc, done, output, errors)
+    deliver(alloc, done, lasts(request), output, errors)
+}
+
+/// Whether what a request's command does stays, so that it is reported also if nobody reads the answer.
+fn lasts(request: &Request<'_>) -> bool {
+    matches!(
+        *request,
+        Request::Create(..)
+            | Request::Submit(_)
+            | Request::Migrate(_)
+            | Request::Copy(_)
+            | Request::Reseed(_)
+    )
 }
 
 /// Writes why the arguments ask for no command: help on the output, a fault on standard error.
 fn answer_without<A: Allocator, O: Write, E: Write>(
+    heap: Global,
     alloc: A,
     none: NoRequest,
     output: &mut O,
@@ -210,10 +213,10 @@ fn answer_without<A: Allocator, O: Write, E: Write>(
         (streams None (O.contents output.new) (E.contents errors.new)) }
 {
     match none {
-        NoRequest::Help(text) => match write_whole(output, text.as_bytes()) {
-            Ok(()) => Status::Done,
-            Err(fault) => Failure::Stream.tell(alloc, Some(Cause::output(fault.reason)), errors),
-        },
+        NoRequest::Help(text) => {
+            let answer = Answer::done(heap, text.into_bytes());
+            deliver(heap, Ok(answer), false, output, errors)
+        }
         NoRequest::WordFault(text) => {
             let _ = write_whole(errors, text.as_bytes());
             Status::WordFault

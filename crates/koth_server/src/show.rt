@@ -8,15 +8,16 @@ use koth_commands::trouble::Trouble;
 use koth_commands::{Answer, Status};
 use koth_files::look_hill;
 use koth_hills::settings_text;
+use koth_json::hill_text;
 use koth_protocol::matches_text;
 use koth_session::table_of;
 use koth_views::{hill_view, matches_view};
-use koth_words::{Shown, View};
+use koth_words::{Shown, View, given_as};
 use sector_disk::Device;
 use std::alloc::{AllocError, Allocator};
 use std::rt::Files;
 
-/// Answers with the table of the hill in a file, as a session answers `SHOW`, or in columns for people. If that is asked for, the matrix of its
+/// Answers with the table of the hill in a file, as a session answers `SHOW`, in columns for people, or as lines of JSON. If that is asked for, the matrix of its
 /// matches follows: who won how many rounds against whom. Or it answers with the hill's settings as options in place of these. The file is only
 /// read, and its lock is not taken: so `show` can show a hill while a service works on it.
 pub(crate) fn perform_show<'s, R: Files, A: Allocator + Copy>(
@@ -68,6 +69,10 @@ fn shown_text<D: Device, A: Allocator + Copy>(
     match view {
         View::Plain => shown_lines(alloc, store, matches),
         View::Table => shown_table(alloc, store, matches),
+        View::Json => {
+            let hill = store.hill();
+            hill_text(alloc, hill, given_as(hill.settings()), matches)
+        }
     }
 }
 

@@ -3,21 +3,22 @@
 ghost use Rattle.std.specs.Prelude.{◌≡◌, IfOk};
 ghost use Rattle.{koth_commands.specs.Streams.{From, is_input}, koth_server.specs.{Hills.AnswersSource, Trials.{IsTrialText, SaysTrial, Tried, trial_view}}};
 
+use crate::json::judged_lines;
 use crate::submit::{REPLY_LINE, SourceText, reply_answer};
 use hill_store::{Reply, Store};
 use koth_commands::trouble::Trouble;
-use koth_commands::{Answer, Source, source_name, source_text};
+use koth_commands::{Answer, source_name, source_text};
 use koth_files::look_hill;
 use koth_hill::{Hill, Verdict};
 use koth_views::{challenged_view, fallen_view};
-use koth_words::View;
+use koth_words::{Source, View};
 use sector_disk::Device;
 use std::alloc::{AllocError, Allocator};
 use std::io::Read;
 use std::rt::Files;
 
-/// Answers what a submission of a source to the hill in a file would be answered, and for people its matches with all on
-/// the hill. Nothing is submitted: the hill is looked at before the source is read, its file is only read, and its lock
+/// Answers what a submission of a source to the hill in a file would be answered, and for people, or as lines of JSON, its
+/// matches with all on the hill. Nothing is submitted: the hill is looked at before the source is read, its file is only read, and its lock
 /// is not taken.
 pub(crate) fn perform_try<'s, R: Files, A: Allocator + Copy, I: Read>(
     rt: &R,
@@ -74,11 +75,12 @@ fn try_source<D: Device, A: Allocator + Copy>(
             let reply = Reply::judged(&judged);
             let more = trial_text(alloc, store.hill(), view, &judged);
             let settings = store.hill().settings();
-            Ok(reply_answer(alloc, room, settings, source, &reply, more.as_slice()))
+            let more = more.as_slice();
+            reply_answer(alloc, room, settings, source, view, &reply, more)
         }
         Some(Err(reply)) => {
             let settings = store.hill().settings();
-            Ok(reply_answer(alloc, room, settings, source, &reply, b""))
+            reply_answer(alloc, room, settings, source, view, &reply, b"")
         }
         None => unreachable!(),
     }
@@ -96,6 +98,10 @@ fn trial_text<A: Allocator + Copy>(
     match view {
         View::Plain => Vec::new(alloc),
         View::Table => match trial_view(alloc, hill, judged) {
+            Ok(text) => text,
+            Err(AllocError) => Vec::new(alloc),
+        },
+        View::Json => match judged_lines(alloc, hill, judged) {
             Ok(text) => text,
             Err(AllocError) => Vec::new(alloc),
         },

@@ -1,5 +1,5 @@
 -- What a run promises for its arguments, from how its request ended, or from why there is none.
-use Rattle.{std.proofs.Common.{None, codes, map, string_bytes}, koth_words.specs.Words.given_by, koth_server.proofs.Carried.{carried, fault_without, without, words_without, wrong_without}}
+use Rattle.{std.proofs.Common.{None, codes, map, string_bytes}, koth_words.specs.Words.given_by, koth_server.proofs.Carried.{carried, fault_without, help_without, without, words_without, wrong_without}}
 use Rattle.koth_server.proofs.program.carry_out.Goals as goal
 
 pub returns-in-Ok : goal.returns-in-Ok
@@ -21,6 +21,7 @@ returns-in-Ok g c = record {
     reseed = λ asks. carried _ _ _ _ _ _ (codes "reseed") c.in-Ok.ensures.request c.fulfil.ensures asks.1;
     words = λ taken. c.fulfil.ensures.1;
     wrong = λ wrong. absurd (c.in-Ok.ensures.wrong wrong);
+    help = λ asks. absurd (c.in-Ok.ensures.help asks);
     word_fault = λ is. absurd (c.fulfil.ensures.1 is);
   };
 }
@@ -54,6 +55,7 @@ returns-in-Err g c =
         reseed = λ asks. without None o p e f status (codes "reseed") view given none (c.in-Err.ensures.taken asks.0) c.answer_without.ensures;
         words = λ taken. words_without None o p e f status none (c.in-Err.ensures.taken taken) c.answer_without.ensures;
         wrong = λ wrong. wrong_without None o p e f status none (c.in-Err.ensures.wrong wrong) c.answer_without.ensures;
+        help = λ asks. help_without None o p e f status none (c.in-Err.ensures.help asks) c.answer_without.ensures;
         word_fault = λ is. fault_without input o p e f status none c.answer_without.ensures is;
       };
     }

@@ -1,6 +1,6 @@
 -- Under the settings that the request gives, or with the fault of the hill that it names for them.
 use Rattle.{std.proofs.{Common.{◌≡◌, ◌∙◌, true, sym, subst}, KnownBytes.Keeps-refl}, koth_words.specs.Words.given_of}
-use Rattle.{koth_commands.specs.Streams.streams, koth_server.specs.{Run.CommandEnds, Settled.{AreSettled, names_hill}}, koth_server.proofs.{Carried.{settled_ends, unsettled_ends}, Statuses.never-words}}
+use Rattle.{koth_server.specs.{Run.CommandEnds, Settled.{AreSettled, names_hill}}, koth_server.proofs.{Carried.{settled_ends, unsettled_ends}, Statuses.never-words}}
 use Rattle.koth_server.proofs.program.fulfil.Goals as goal
 
 pub returns-in-Ok : goal.returns-in-Ok

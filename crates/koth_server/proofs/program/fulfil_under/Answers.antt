@@ -1,5 +1,5 @@
 -- Each command ends as its request says, and none of them ends as at a fault of the arguments.
-use Rattle.{std.proofs.Common.{false, length, ap, subst, sym}, war_types.specs.Settings.settings_of, koth_commands.specs.Streams.{From, streams}}
+use Rattle.{std.proofs.Common.{ap, is_some, subst, sym}, war_types.specs.Settings.settings_of, koth_commands.specs.{Check.names_of, Report.manner_of, Streams.{From, is_input, streams}}}
 use Rattle.koth_keeping.specs.{Answers.{Answers, SaysLine}, Audit.SaysAudit, Copies.{MayReseed, SaysCopied}, Created.MayCreate, Migration.migrated_line}
 use Rattle.koth_server.specs.{Hills.{AnswersSource, SaysReply, SaysShown, TellsNote, sight_of}, Page.SaysPage, Run.viewed, Trials.SaysTrial}
 use Rattle.koth_server.proofs.{Carried.{asm_no_word, check_no_word, fight_no_word, replay_no_word, request_ends}, Performed.{noted, of_source, plain}}
@@ -10,20 +10,20 @@ use Rattle.koth_server.proofs.program.fulfil_under.Goals as goal
 pub returns-in-Asm : goal.returns-in-Asm
 returns-in-Asm g c =
     let after = streams (g.I.Read.remaining c.asm.new.input) (g.O.Write.contents c.asm.new.output) (g.E.Write.contents c.asm.new.errors) in
-    let words = asm_no_word c.in-Asm.source (settings_of c.args.settings) c.asm.result _ after c.asm.ensures in
+    let words = asm_no_word (is_input c.in-Asm.source) (settings_of c.args.settings) c.asm.result _ after c.asm.ensures in
     request_ends c.args.settings c.args.view _ _ _ _ after c.in-Asm.is c.asm.ensures words
 
 pub returns-in-Check : goal.returns-in-Check
 returns-in-Check g c =
-    let after = streams (g.I.Read.remaining c.args.input.now) (g.O.Write.contents c.check.new.output) (g.E.Write.contents c.check.new.errors) in
-    let words = check_no_word (length c.in-Check.checked.files.items) (settings_of c.args.settings) c.check.result _ _ c.check.ensures in
+    let after = streams (g.I.Read.remaining c.check.new.input) (g.O.Write.contents c.check.new.output) (g.E.Write.contents c.check.new.errors) in
+    let words = check_no_word (manner_of c.in-Check.checked) (names_of c.in-Check.checked) (settings_of c.args.settings) c.check.result _ _ c.check.ensures in
     request_ends c.args.settings c.args.view _ _ _ _ after c.in-Check.is c.check.ensures words
 
 pub returns-in-Fight : goal.returns-in-Fight
 returns-in-Fight g c =
-    let after = streams (g.I.Read.remaining c.args.input.now) (g.O.Write.contents c.fight.new.output) (g.E.Write.contents c.fight.new.errors) in
+    let after = streams (g.I.Read.remaining c.fight.new.input) (g.O.Write.contents c.fight.new.output) (g.E.Write.contents c.fight.new.errors) in
     let ends = rw c.viewed-view.ensures at c.fight.ensures in
-    let words = fight_no_word c.viewed-view.result (settings_of c.args.settings) c.fight.result _ _ c.fight.ensures in
+    let words = fight_no_word c.in-Fight.fighters c.viewed-view.result (settings_of c.args.settings) c.fight.result _ _ c.fight.ensures in
     request_ends c.args.settings c.args.view _ _ _ _ after c.in-Fight.is ends words
 
 pub returns-in-Serve : goal.returns-in-Serve
@@ -33,8 +33,8 @@ returns-in-Serve g c =
 
 pub returns-in-Replay : goal.returns-in-Replay
 returns-in-Replay g c =
-    let after = streams (g.I.Read.remaining c.args.input.now) (g.O.Write.contents c.replay.new.output) (g.E.Write.contents c.replay.new.errors) in
-    let words = replay_no_word c.in-Replay.watched.round (settings_of c.args.settings) c.replay.result _ _ c.replay.ensures in
+    let after = streams (g.I.Read.remaining c.replay.new.input) (g.O.Write.contents c.replay.new.output) (g.E.Write.contents c.replay.new.errors) in
+    let words = replay_no_word c.in-Replay.watched.round (is_some c.in-Replay.watched.page) (settings_of c.args.settings) c.replay.result _ _ c.replay.ensures in
     request_ends c.args.settings c.args.view _ _ _ _ after c.in-Replay.is c.replay.ensures words
 
 pub returns : goal.returns
@@ -59,18 +59,20 @@ returns g c =
           (ap (λ x. g.E.Write.contents x) w.errors-is) (λ ends. ends) w.perform_migrate-done.ensures
       | in-Submit w ↦
           let shown = viewed w.in-Submit.files.view v in
-          let may = subst (λ x. From false (λ a b. AnswersSource (SaysReply x) a b w.perform_submit-done.result) i (g.I.Read.remaining w.perform_submit-done.new.input))
+          let of_input = is_input w.in-Submit.files.source in
+          let may = subst (λ x. From of_input (λ a b. AnswersSource (SaysReply x) a b w.perform_submit-done.result) i (g.I.Read.remaining w.perform_submit-done.new.input))
           w.viewed-view-in-Submit.ensures w.perform_submit-done.ensures in
-          of_source s v _ _ _ i j o p e n f done _ w.in-Submit.is w.done-is c.deliver.ensures (SaysReply shown) (replied false shown i j)
+          of_source s v _ _ _ i j o p e n f done _ w.in-Submit.is w.done-is c.deliver.ensures of_input (SaysReply shown) (replied of_input shown i j)
           (subst (λ x. TellsNote e (g.E.Write.contents x)) (sym w.errors-is) w.tell_lost_header-in-Submit.ensures) (λ ends. ends)
-          (subst (λ x. From false (λ a b. AnswersSource (SaysReply shown) a b w.perform_submit-done.result) i (g.I.Read.remaining x)) (sym w.input-is) may)
+          (subst (λ x. From of_input (λ a b. AnswersSource (SaysReply shown) a b w.perform_submit-done.result) i (g.I.Read.remaining x)) (sym w.input-is) may)
       | in-Try w ↦
           let shown = viewed w.in-Try.files.view v in
-          let may = subst (λ x. From false (λ a b. AnswersSource (SaysTrial x) a b w.perform_try-done.result) i (g.I.Read.remaining w.perform_try-done.new.input))
+          let of_input = is_input w.in-Try.files.source in
+          let may = subst (λ x. From of_input (λ a b. AnswersSource (SaysTrial x) a b w.perform_try-done.result) i (g.I.Read.remaining w.perform_try-done.new.input))
           w.viewed-view-in-Try.ensures w.perform_try-done.ensures in
-          of_source s v _ _ _ i j o p e n f done _ w.in-Try.is w.done-is c.deliver.ensures (SaysTrial shown) (tried false shown i j)
+          of_source s v _ _ _ i j o p e n f done _ w.in-Try.is w.done-is c.deliver.ensures of_input (SaysTrial shown) (tried of_input shown i j)
           (subst (λ x. TellsNote e (g.E.Write.contents x)) (sym w.errors-is) w.tell_lost_header-in-Try.ensures) (λ ends. ends)
-          (subst (λ x. From false (λ a b. AnswersSource (SaysTrial shown) a b w.perform_try-done.result) i (g.I.Read.remaining x)) (sym w.input-is) may)
+          (subst (λ x. From of_input (λ a b. AnswersSource (SaysTrial shown) a b w.perform_try-done.result) i (g.I.Read.remaining x)) (sym w.input-is) may)
       | in-Show w ↦
           let sight = sight_of w.in-Show.shown in
           let asked = viewed w.in-Show.shown.view v in
@@ -81,8 +83,10 @@ returns g c =
           noted s v _ _ _ i j o p e n f done _ w.in-Page.is w.done-is c.deliver.ensures (Answers SaysPage) paged
           (subst (λ x. TellsNote e (g.E.Write.contents x)) (sym w.errors-is) w.tell_lost_header-in-Page.ensures) (λ ends. ends) w.perform_page-done.ensures
       | in-Audit w ↦
-          noted s v _ _ _ i j o p e n f done _ w.in-Audit.is w.done-is c.deliver.ensures (Answers SaysAudit) audited
-          (subst (λ x. TellsNote e (g.E.Write.contents x)) (sym w.errors-is) w.tell_lost_header-in-Audit.ensures) (λ ends. ends) w.perform_audit-done.ensures
+          let asked = viewed w.in-Audit.audited.view v in
+          noted s v _ _ _ i j o p e n f done _ w.in-Audit.is w.done-is c.deliver.ensures (Answers (SaysAudit asked)) (audited asked)
+          (subst (λ x. TellsNote e (g.E.Write.contents x)) (sym w.errors-is) w.tell_lost_header-in-Audit.ensures) (λ ends. ends)
+          (subst (λ x. Answers (SaysAudit x) w.perform_audit-done.result) w.viewed-in-Audit.ensures w.perform_audit-done.ensures)
       | in-Copy w ↦
           let asked = w.in-Copy.files.audit in
           noted s v _ _ _ i j o p e n f done _ w.in-Copy.is w.done-is c.deliver.ensures (Answers (SaysCopied asked)) (copied asked)
