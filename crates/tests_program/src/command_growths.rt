@@ -259,6 +259,99 @@ fn check_trial(
     expect_number(rt, refused, refusals, TRIAL);
 }
 
+/// Commands that write line by line, or a page.
+const CONTESTS: [Command; 5] = [
+    Command {
+        line: small!("koth fight stays.growths dat.growths stays.growths"),
+        input: "",
+        output: "2 0 0 6 dat.growths\n0 0 2 2 stays.growths\n2 0 2 8\n",
+        status: 0,
+    },
+    Command {
+        line: small!("koth fight - dat.growths stays.growths --both --name stays"),
+        input: "JMP 0\n",
+        output: "4 0 0 12 dat.growths\n0 0 4 4 stays.growths\n4 0 4 16\n",
+        status: 0,
+    },
+    Command {
+        line: small!("koth fight stays.growths field.growths"),
+        input: "",
+        output: "2 0 0 6 field.growths/dat.red\n2 0 0 6\n",
+        status: 0,
+    },
+    Command {
+        line: small!("koth fight stays.growths dat.growths --each"),
+        input: "",
+        output: "1 7 17 A A 2\n2 117649 29 B A 1\n",
+        status: 0,
+    },
+    Command {
+        line: small!("koth replay stays.growths dat.growths --won -o growths.html"),
+        input: "",
+        output: "",
+        status: 0,
+    },
+];
+
+/// The sources of these.
+const SOURCES: [Step; 4] = steps! {
+    Put("stays.growths", "JMP 0\n");
+    Put("dat.growths", "DAT 0\n");
+    Folder("field.growths");
+    Put("field.growths/dat.red", "DAT 0\n");
+};
+
+/// And what is removed of them.
+const SOURCES_REMOVED: [Step; 5] = steps! {
+    Remove("stays.growths");
+    Remove("dat.growths");
+    Remove("field.growths/dat.red");
+    RemoveFolder("field.growths");
+    Remove("growths.html");
+};
+
+/// Each growth of a contest is refused in turn: whole lines come before `MEMORY`, and no page.
+#[test]
+fn of_contests(rt: HostRuntime) {
+    play(&rt, &SOURCES);
+    for command in &CONTESTS {
+        check_contest(&rt, command);
+    }
+    play(&rt, &SOURCES_REMOVED);
+}
+
+fn check_contest(rt: &(impl Abort + Host), command: &Command) {
+    let memory = Refusing::new(rt.alloc());
+    let mut done = false;
+    for k in 0..1000 {
+        done = done || is_done(rt, &memory, k, command);
+    }
+    drop(memory);
+    expect(rt, done, "it makes a thousand growths");
+}
+
+/// A contest, of which growth `k` is refused. Whether it took no more growths is the answer.
+fn is_done(rt: &(impl Abort + Host), memory: &Refusing<Global>, k: u64, command: &Command) -> bool {
+    let (ran, refused) = run_without(rt, memory, k, command.line, command.input);
+    if refused == 0 {
+        expect(rt, text_in(&ran.output) == command.output, command.line);
+        expect_status(rt, ran.status, command.status, command.line);
+    } else {
+        expect_begun(rt, &ran, command);
+    }
+    drop(ran);
+    refused == 0
+}
+
+/// A run that found no memory wrote the first lines of what this command writes, and `MEMORY`.
+fn expect_begun(rt: &impl Abort, ran: &Ran, command: &Command) {
+    let output = text_in(&ran.output);
+    expect(rt, command.output.starts_with(output), output);
+    expect(rt, output.is_empty() || output.ends_with('\n'), output);
+    expect(rt, text_in(&ran.errors).ends_with("MEMORY\n"), command.line);
+    expect_status(rt, ran.status, 4, command.line);
+}
+
 /// Each of these commands, on the hill as it is.
 fn check_on_hill(rt: &(impl Abort + Host), rows: &[Row]) {
     let hill = read(rt, HILL);

@@ -158,7 +158,7 @@ const REFUSED: [Step; 5] = steps! {
     Fault("koth copy copied.hill", "<NEW>");
     Fault("koth reseed copied.hill", "<NEW>");
     Fault("koth try tried.hill", "<SOURCE>");
-    Fault("koth try tried.hill tried.red --plain --table", "'--plain' cannot be used with '--table'");
+    Fault("koth try tried.hill tried.red --plain --table", "error: the arguments '--plain', '--table' and '--format json' cannot be used together\n");
     Help("koth copy --help", "--audit");
 };
 

@@ -1,9 +1,5 @@
-use crate::compare::{expect, expect_count, expect_status};
-use crate::files::{put, remove};
-use crate::program::{Host, Ran, expect_done, run_line, text_in};
 use crate::steps::{Step, play, steps};
 use koth_server::View;
-use std::process::Abort;
 
 /// These words with small settings, and then others.
 macro_rules! small {
@@ -81,44 +77,26 @@ fn the_older_source_is_refused_first(rt: HostRuntime) {
     play(&rt, &THE_OLDER_SOURCE_IS_REFUSED_FIRST);
 }
 
-/// A fight of which a file is missing.
-fn check_missing(rt: &(impl Abort + Host)) {
-    let ran = run_line(rt, small!("koth fight first.red second.red"));
-    expect_missing(rt, &ran);
-    drop(ran);
-}
+/// What is done in `files_that_are_not_there`: the older one is missing, the younger, and both.
+const FILES_THAT_ARE_NOT_THERE: [Step; 7] = steps! {
+    Put("second.red", "JMP\n");
+    Tell(small!("koth fight first.red second.red"), View::Plain, "", "DISK first.red: no such file or folder\n", 3);
+    Remove("second.red");
+    Put("first.red", "DAT 0\n");
+    Tell(small!("koth fight first.red second.red"), View::Plain, "", "DISK second.red: no such file or folder\n", 3);
+    Remove("first.red");
+    Tell(small!("koth fight first.red second.red"), View::Plain, "", "DISK first.red: no such file or folder\n", 3);
+};
 
-/// A run told that a source is missing, and wrote nothing.
-fn expect_missing(rt: &impl Abort, ran: &Ran) {
-    let errors = text_in(&ran.errors);
-    expect_count(rt, ran.output.len(), 0, errors);
-    expect(rt, errors.starts_with("DISK "), errors);
-    expect(
-        rt,
-        errors.ends_with(".red: no such file or folder\n"),
-        errors,
-    );
-    expect_status(rt, ran.status, 3, errors);
-}
-
-/// The older one is missing, the younger, and both.
 #[test]
 fn files_that_are_not_there(rt: HostRuntime) {
-    check_each_missing(&rt);
+    play(&rt, &FILES_THAT_ARE_NOT_THERE);
 }
 
-fn check_each_missing(rt: &(impl Abort + Host)) {
-    put(rt, "second.red", "JMP\n");
-    check_missing(rt);
-    remove(rt, "second.red");
-    put(rt, "first.red", "DAT 0\n");
-    check_missing(rt);
-    remove(rt, "first.red");
-    check_missing(rt);
-}
-
-/// What is done last in `a_round_is_shown`.
-const THIRD: [Step; 2] = steps! {
+/// What is done in `a_round_is_shown`.
+const A_ROUND_IS_SHOWN: [Step; 4] = steps! {
+    Put("watched.red", ";name Watched\nMOV 0, 1\n");
+    Page(small!("koth replay watched.red watched.red --round=2"), "Watched");
     Tell(small!("koth replay watched.red watched.red --round=3"), View::Plain, "",
         "BadSettings Rounds: --round is 3, and must be 1 to --rounds 2\n", 1);
     Remove("watched.red");
@@ -126,21 +104,5 @@ const THIRD: [Step; 2] = steps! {
 
 #[test]
 fn a_round_is_shown(rt: HostRuntime) {
-    check_round(&rt);
-}
-
-fn check_round(rt: &(impl Abort + Host)) {
-    put(rt, "watched.red", ";name Watched\nMOV 0, 1\n");
-    let second = small!("koth replay watched.red watched.red --round=2");
-    let ran = run_line(rt, second);
-    expect_watched(rt, text_in(&ran.output));
-    expect_done(rt, &ran);
-    drop(ran);
-    play(rt, &THIRD);
-}
-
-/// A page that shows the warrior.
-fn expect_watched(rt: &impl Abort, page: &str) {
-    expect(rt, page.starts_with("<!DOCTYPE html>"), page);
-    expect(rt, page.contains("Watched"), page);
+    play(&rt, &A_ROUND_IS_SHOWN);
 }

@@ -27,6 +27,16 @@ pub(crate) fn remove(rt: &(impl Abort + Files), file: &str) {
     fs::remove_file(rt, file).expect(rt, "it is removed");
 }
 
+/// Makes a folder.
+pub(crate) fn make_folder(rt: &(impl Abort + Files), folder: &str) {
+    fs::create_dir(rt, folder).expect(rt, "it is made");
+}
+
+/// Removes a folder with nothing in it.
+pub(crate) fn remove_folder(rt: &(impl Abort + Files), folder: &str) {
+    fs::remove_dir(rt, folder).expect(rt, "it is removed");
+}
+
 /// The bytes of a file.
 pub(crate) fn read(rt: &(impl Abort + Files + AllocGlobal), file: &str) -> Vec<u8> {
     fs::read(rt, file).expect(rt, "it is read")

@@ -7,6 +7,8 @@
 //!
 //! - `words`: which words are faults, ask for help, or give settings;
 //! - `assembling`, `fights` and `hills`: what the commands write, how they end, and what they do to files;
+//! - `contests`: a warrior against many, the rounds of a match, and the page of a round;
+//! - `inputs`: sources from standard input, and what `check` reports of sources;
 //! - `creations`: how the file of a new hill comes to its place, and headers and names that are told;
 //! - `copies`: what a submission would be answered, a copy of a hill, and a hill with another seed;
 //! - `seeds`: the seed that is drawn, and what is told of the default one;
@@ -29,6 +31,8 @@ mod command_growths;
 #[cfg(test)]
 mod compare;
 #[cfg(test)]
+mod contests;
+#[cfg(test)]
 mod copies;
 #[cfg(test)]
 mod creations;
@@ -38,6 +42,8 @@ mod fights;
 mod files;
 #[cfg(test)]
 mod hills;
+#[cfg(test)]
+mod inputs;
 #[cfg(test)]
 mod logs;
 #[cfg(test)]

@@ -171,7 +171,21 @@ pub(crate) fn check_told(
     errors: &str,
     status: u8,
 ) {
-    let ran = run_viewed(rt, rt.alloc(), line, view, &mut b"".as_slice());
+    check_fed(rt, line, view, b"", output, errors, status);
+}
+
+/// The same with this input.
+pub(crate) fn check_fed(
+    rt: &(impl Abort + Host),
+    line: &str,
+    view: View,
+    input: &[u8],
+    output: &str,
+    errors: &str,
+    status: u8,
+) {
+    let mut left = input;
+    let ran = run_viewed(rt, rt.alloc(), line, view, &mut left);
     expect_text(rt, &ran.output, output);
     expect_text(rt, &ran.errors, errors);
     expect_status(rt, ran.status, status, line);

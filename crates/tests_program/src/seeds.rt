@@ -19,7 +19,7 @@ const SEEDS: [Step; 8] = steps! {
     Tell("koth create seeded.hill --capacity 1", View::Table, "CREATED\n", HINT, 0);
     Tell("koth create seeded.hill --capacity 1 --overwrite --seed 1", View::Plain, "CREATED\n", HINT, 0);
     Tell("koth create seeded.hill --capacity 1 --overwrite --seed 2", View::Plain, "CREATED\n", "", 0);
-    Tell("koth create seeded.hill --rounds 0 --overwrite --draw-seed", View::Plain, "", "BadSettings Rounds: --rounds is 0, and must be 1 to 1000\n", 1);
+    Tell("koth create seeded.hill --rounds 0 --overwrite --draw-seed", View::Plain, "", "BadSettings Rounds: --rounds is 0, and must be 1 to 1000; koth asm and koth check play none\n", 1);
     Tell("koth create seeded.hill --capacity 1 --overwrite --draw-seed", View::Table, "CREATED\n", "", 0);
     Tell("koth create seeded_too.hill --capacity 1 --draw-seed", View::Plain, "CREATED\n", "", 0);
     Run("koth show seeded.hill", ".\n", "", 0);

@@ -1,11 +1,11 @@
 //! What tests do, step by step. A test of which each step is known beforehand is a table of them.
 
-use crate::compare::expect;
+use crate::compare::{expect, expect_count};
 use crate::files::{
-    exists, expect_bytes, expect_length, expect_old_hill, expect_private, link, put, put_old_hill,
-    put_one_byte, put_result, remove, set_mode,
+    exists, expect_bytes, expect_length, expect_old_hill, expect_private, link, make_folder, put,
+    put_old_hill, put_one_byte, put_result, remove, remove_folder, set_mode,
 };
-use crate::program::{Host, check, check_told, expect_done, run_line, text_in};
+use crate::program::{Host, check, check_fed, check_told, expect_done, run_line, text_in};
 use crate::words::{check_fault, check_help, check_options};
 use koth_server::View;
 use std::process::Abort;
@@ -27,6 +27,10 @@ pub(crate) enum Step {
     PutByte(&'static str, usize, u8),
     /// A file is removed.
     Remove(&'static str),
+    /// A folder is made.
+    Folder(&'static str),
+    /// A folder with nothing in it is removed.
+    RemoveFolder(&'static str),
     /// A file has this text.
     Text(&'static str, &'static str),
     /// A file has the bytes of the hill of the old format.
@@ -41,8 +45,12 @@ pub(crate) enum Step {
     Run(&'static str, &'static str, &'static str, u8),
     /// Words, a view, what they write, all that they tell, and their status, as `check_told` has them.
     Tell(&'static str, View, &'static str, &'static str, u8),
+    /// Words and an input, what they write, all that they tell, and their status.
+    Feed(&'static str, &'static str, &'static str, &'static str, u8),
     /// Words that write a page, and a part of it.
     Page(&'static str, &'static str),
+    /// Words that write a page, and a file to which they write the same one with `-o`.
+    Written(&'static str, &'static str),
     /// Words that have a fault, and a part of what is told of it.
     Fault(&'static str, &'static str),
     /// Words that ask for help, and a part of it.
@@ -89,6 +97,8 @@ fn act(rt: &(impl Abort + Host), step: Step) {
         Step::SetMode(file, mode) => set_mode(rt, file, mode),
         Step::PutByte(file, at, byte) => put_one_byte(rt, file, at, byte),
         Step::Remove(file) => remove(rt, file),
+        Step::Folder(folder) => make_folder(rt, folder),
+        Step::RemoveFolder(folder) => remove_folder(rt, folder),
         Step::Text(file, text) => expect_bytes(rt, file, text.as_bytes()),
         Step::OldHill(file) => expect_old_hill(rt, file),
         Step::Length(file, length) => expect_length(rt, file, length),
@@ -98,7 +108,19 @@ fn act(rt: &(impl Abort + Host), step: Step) {
         Step::Tell(line, view, output, errors, status) => {
             check_told(rt, line, view, output, errors, status);
         }
+        Step::Feed(line, input, output, errors, status) => {
+            check_fed(
+                rt,
+                line,
+                View::Plain,
+                input.as_bytes(),
+                output,
+                errors,
+                status,
+            );
+        }
         Step::Page(line, part) => check_page(rt, line, part),
+        Step::Written(line, file) => check_written(rt, line, file),
         Step::Fault(line, part) => check_fault(rt, line, part),
         Step::Help(line, part) => check_help(rt, line, part),
         Step::Refused(options, field) => check_options(rt, options, field),
@@ -123,6 +145,21 @@ fn expect_page(rt: &impl Abort, page: &str, part: &str) {
     expect(rt, page.starts_with("<!DOCTYPE html>\n"), page);
     expect(rt, page.ends_with("</html>\n"), page);
     expect(rt, page.contains(part), page);
+}
+
+/// These words write a page, and with this file for it they write nothing, but the same page to the file.
+fn check_written(rt: &(impl Abort + Host), line: &str, file: &str) {
+    let page = run_line(rt, line);
+    expect_page(rt, text_in(&page.output), "");
+    expect_done(rt, &page);
+    let words = format!(in rt.alloc(); "{line} -o {file}").expect(rt, "there is memory");
+    let ran = run_line(rt, words.as_str());
+    drop(words);
+    expect_count(rt, ran.output.len(), 0, line);
+    expect_done(rt, &ran);
+    drop(ran);
+    expect_bytes(rt, file, page.output.as_slice());
+    drop(page);
 }
 
 /// Each command on a file without a hill, which is tried before the source is read or the port is bound.

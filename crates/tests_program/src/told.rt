@@ -48,9 +48,17 @@ fn files_that_hold_something_else(rt: HostRuntime) {
     play(&rt, &FILES_THAT_HOLD_SOMETHING_ELSE);
 }
 
-/// Settings out of their ranges, and what is told of them.
-const OUT_OF_RANGE: [Step; 4] = steps! {
+/// Settings out of their ranges, and what is told of them: the ranges that help has (`HELPS` in `words`).
+const OUT_OF_RANGE: [Step; 11] = steps! {
     Tell("koth create x --rounds 2000", View::Table, "", "BadSettings Rounds: --rounds is 2000, and must be 1 to 1000\n", 1);
+    Tell("koth fight a b -r 0", View::Table, "",
+        "BadSettings Rounds: --rounds is 0, and must be 1 to 1000; koth asm and koth check play none\n", 1);
+    Tell("koth create x --core 65536", View::Table, "", "BadSettings Core: --core is 65536, and must be 64 to 65535\n", 1);
+    Tell("koth create x --cycles 1000001", View::Table, "", "BadSettings Cycles: --cycles is 1000001, and must be 1 to 1000000\n", 1);
+    Tell("koth create x --processes 65536", View::Table, "", "BadSettings Processes: --processes is 65536, and must be 1 to 65535\n", 1);
+    Tell("koth create x --length 201", View::Table, "", "BadSettings Length: --length is 201, and must be 1 to 200\n", 1);
+    Tell("koth create x --seed 2147483647", View::Table, "", "BadSettings Seed: --seed is 2147483647, and must be 1 to 2147483646\n", 1);
+    Tell("koth create x --capacity 21", View::Table, "", "BadSettings Capacity: --capacity is 21, and must be 1 to 20\n", 1);
     Tell("koth create x --core 100", View::Table, "",
         "BadSettings Distance: --distance is 100 (its default), and must be --length 100 (its default) to half of --core 100\n",
         1);

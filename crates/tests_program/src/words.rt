@@ -22,14 +22,39 @@ fn expect_fault(rt: &impl Abort, ran: &Ran, part: &str) {
 }
 
 /// Words with a fault, and a part of what is told of it.
-const FAULTS: [Step; 57] = steps! {
+const FAULTS: [Step; 98] = steps! {
     Fault("koth", "requires a subcommand");
     Fault("koth fly", "unrecognized subcommand 'fly'");
     Fault("koth ASM", "unrecognized subcommand 'ASM'");
     Fault("koth asm a extra", "unexpected argument 'extra'");
-    Fault("koth check", "<FILE>");
+    Fault("koth check", "<SOURCE>");
+    Fault("koth check a --deny all", "error: the argument '--deny <WHAT>' takes 'warnings'\n");
+    Fault("koth check - a -", "error: only one source can be '-', which is standard input\n");
+    Fault("koth asm a --name b", "error: the argument '--name <NAME>' needs '-' as a source\n");
     Fault("koth check a --format xml", "takes 'text' or 'json'");
-    Fault("koth show f --plain --table", "--table");
+    Fault("koth fight a b --format JSON", "error: the argument '--format <FORM>' takes 'text' or 'json'\n");
+    Fault("koth asm --format json", "unexpected argument '--format'");
+    Fault("koth create f --format json", "unexpected argument '--format'");
+    Fault("koth replay a b --format json", "unexpected argument '--format'");
+    Fault("koth audit f --format", "a value is required for '--format <FORM>'");
+    Fault("koth audit f --table", "unexpected argument '--table'");
+    Fault("koth show f --format json --plain", "cannot be used together");
+    Fault("koth check a --deny", "a value is required for '--deny <WHAT>'");
+    Fault("koth check a --deny Warnings", "takes 'warnings'");
+    Fault("koth asm --warnings", "unexpected argument '--warnings'");
+    Fault("koth fight a", "<OTHER>");
+    Fault("koth fight - -", "only one source can be '-'");
+    Fault("koth fight a - b -", "only one source can be '-'");
+    Fault("koth replay - -", "only one source can be '-'");
+    Fault("koth check a --name b", "'--name <NAME>' needs '-' as a source");
+    Fault("koth fight a b --name c", "'--name <NAME>' needs '-' as a source");
+    Fault("koth replay a b --name c", "'--name <NAME>' needs '-' as a source");
+    Fault("koth submit f a --name c", "'--name <NAME>' needs '-' as a source");
+    Fault("koth try - a --name c", "'--name <NAME>' needs '-' as a source");
+    Fault("koth submit f - --name", "a value is required for '--name <NAME>'");
+    Fault("koth show f --name c", "unexpected argument '--name'");
+    Fault("koth show f --plain --table", "error: the arguments '--plain', '--table' and '--format json' cannot be used together\n");
+    Fault("koth fight a b --format json --table", "cannot be used together");
     Fault("koth asm --size 64", "unexpected argument '--size'");
     Fault("koth asm --core", "a value is required for");
     Fault("koth asm --core x", "invalid value 'x'");
@@ -37,8 +62,14 @@ const FAULTS: [Step; 57] = steps! {
     Fault("koth asm --core=-1", "invalid value '-1'");
     Fault("koth fight a b --seed 4294967296", "invalid value '4294967296'");
     Fault("koth asm --core 64 --core 64", "cannot be used multiple times");
-    Fault("koth fight a", "<B>");
-    Fault("koth fight a b c", "unexpected argument 'c'");
+    Fault("koth fight a b c --each", "error: the argument '--each' takes one opponent, and cannot be used with '--both'\n");
+    Fault("koth fight a b --both --each", "cannot be used with '--both'");
+    Fault("koth fight -b a b", "there is no '-b'");
+    Fault("koth fight a b -k", "there is no '-k'");
+    Fault("koth fight -F 300 a b", "there is no '-F': positions are drawn from '--seed <NUMBER>'");
+    Fault("koth fight -f a b", "there is no '-f'");
+    Fault("koth fight -@ a", "there is no '-@'");
+    Fault("koth fight -x a b", "unexpected argument '-x'");
     Fault("koth create", "<FILE>");
     Fault("koth submit f", "<SOURCE>");
     Fault("koth show f g", "unexpected argument 'g'");
@@ -72,10 +103,20 @@ const FAULTS: [Step; 57] = steps! {
     Fault("koth serve f --port 0 --preset 94nop", "need '--create'");
     Fault("koth serve f --port 0 --create --like g", "unexpected argument '--like'");
     Fault("koth submit f g --preset tiny", "unexpected argument '--preset'");
-    Fault("koth show f --settings --matches", "error: the argument '--settings' cannot be used with '--matches', and '--with-seed' needs '--settings'\n");
-    Fault("koth show f --with-seed", "'--with-seed' needs '--settings'");
+    Fault("koth show f --settings --matches", "error: the argument '--settings' cannot be used with '--matches'\n");
+    Fault("koth show f --with-seed", "error: the argument '--with-seed' needs '--settings'\n");
     Fault("koth page f --settings", "unexpected argument '--settings'");
-    Fault("koth replay a", "<B>");
+    Fault("koth replay a", "<OTHER>");
+    Fault("koth replay a b --lost --tied", "error: the arguments '--round <NUMBER>', '--lost', '--won' and '--tied' cannot be used together\n");
+    Fault("koth replay a b --round 2 --won", "cannot be used together");
+    Fault("koth replay a b --won --lost", "cannot be used together");
+    Fault("koth replay a b --tied --round=1", "cannot be used together");
+    Fault("koth replay a b c", "unexpected argument 'c'");
+    Fault("koth replay a b -o", "a value is required for '--output <FILE>'");
+    Fault("koth fight a b -o c", "unexpected argument '-o'");
+    Fault("koth fight a b --lost", "unexpected argument '--lost'");
+    Fault("koth replay a b --each", "unexpected argument '--each'");
+    Fault("koth replay a b --both", "unexpected argument '--both'");
     Fault("koth replay a b --round 0", "0 is not in 1..=1000");
     Fault("koth replay a b --round 1001", "1001 is not in 1..=1000");
     Fault("koth replay a b --plain", "unexpected argument '--plain'");
@@ -97,7 +138,7 @@ pub(crate) fn check_help(rt: &(impl Abort + Host), line: &str, part: &str) {
 }
 
 /// Words that ask for help, and a part of it.
-const HELPS: [Step; 32] = steps! {
+const HELPS: [Step; 51] = steps! {
     Help("koth --help", "Usage: koth <COMMAND>");
     Help("koth -h", "Usage: koth <COMMAND>");
     Help("koth help", "Usage: koth <COMMAND>");
@@ -114,7 +155,7 @@ const HELPS: [Step; 32] = steps! {
     Help("koth show -h", "--settings");
     Help("koth fight -h", "--like <FILE>");
     Help("koth serve -h", "94nop, tiny or nano [default: 94nop]");
-    Help("koth audit --help", "Usage: koth audit <FILE>");
+    Help("koth audit --help", "Usage: koth audit [OPTIONS] <FILE>");
     Help("koth migrate --help", "Usage: koth migrate <FILE> <NEW>");
     Help("koth asm --help", "1 to 200 [default: 100]");
     Help("koth serve --help", "0 to 65535");
@@ -127,7 +168,26 @@ const HELPS: [Step; 32] = steps! {
     Help("koth help serve", "--host <NAME>");
     Help("koth serve --help", "a hill that is there keeps its own");
     Help("koth serve --help", "1 to 20 [default: 20]");
-    Help("koth replay --help", "Usage: koth replay [OPTIONS] <A> <B>");
+    Help("koth replay --help", "Usage: koth replay [OPTIONS] <MINE> <OTHER>");
+    Help("koth fight --help", "Usage: koth fight [OPTIONS] <MINE> <OTHER>...");
+    Help("koth asm --help", "64 to 65535 [default: 8000]");
+    Help("koth asm --help", "Most processes of each side, 1 to 65535 [default: 8000]");
+    Help("koth asm --help", "from --length to half of --core [default: 100]");
+    Help("koth asm --help", "1 to 1000 [default: 10]");
+    Help("koth asm --help", "1 to 2147483646;");
+    Help("koth fight -h", "--both");
+    Help("koth fight -h", "--each");
+    Help("koth fight -h", "--format <FORM>");
+    Help("koth check -h", "--warnings");
+    Help("koth check -h", "--deny <WHAT>");
+    Help("koth check -h", "Usage: koth check [OPTIONS] <SOURCE>...");
+    Help("koth asm -h", "--name <NAME>");
+    Help("koth try -h", "--name <NAME>");
+    Help("koth audit -h", "--format <FORM>");
+    Help("koth replay -h", "-o, --output <FILE>");
+    Help("koth replay -h", "--lost");
+    Help("koth replay -h", "--won");
+    Help("koth replay -h", "--tied");
     Help("koth replay -h", "--round <NUMBER>");
     Help("koth replay --help", "1 to 1000000 [default: 80000]");
 };
