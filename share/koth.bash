@@ -9,20 +9,21 @@ _koth_takes() {
             kinds=('command')
             ;;
         'asm')
-            options='-h --help --like --preset -s --core -p --processes -l --length -d --distance -c --cycles -r --rounds --read-limit --write-limit --seed --capacity'
-            valued='--like --preset -s --core -p --processes -l --length -d --distance -c --cycles -r --rounds --read-limit --write-limit --seed --capacity'
+            options='--name -h --help --like --preset -s --core -p --processes -l --length -d --distance -c --cycles -r --rounds --read-limit --write-limit --seed --capacity'
+            valued='--name --like --preset -s --core -p --processes -l --length -d --distance -c --cycles -r --rounds --read-limit --write-limit --seed --capacity'
             kinds=('source')
             ;;
         'check')
-            options='--format -h --help --like --preset -s --core -p --processes -l --length -d --distance -c --cycles -r --rounds --read-limit --write-limit --seed --capacity'
-            valued='--format --like --preset -s --core -p --processes -l --length -d --distance -c --cycles -r --rounds --read-limit --write-limit --seed --capacity'
+            options='--name --format --warnings --deny -h --help --like --preset -s --core -p --processes -l --length -d --distance -c --cycles -r --rounds --read-limit --write-limit --seed --capacity'
+            valued='--name --format --deny --like --preset -s --core -p --processes -l --length -d --distance -c --cycles -r --rounds --read-limit --write-limit --seed --capacity'
             kinds=('source')
             further='source'
             ;;
         'fight')
-            options='--plain --table -h --help --like --preset -s --core -p --processes -l --length -d --distance -c --cycles -r --rounds --read-limit --write-limit --seed --capacity'
-            valued='--like --preset -s --core -p --processes -l --length -d --distance -c --cycles -r --rounds --read-limit --write-limit --seed --capacity'
+            options='--name --both --each --plain --table --format -h --help --like --preset -s --core -p --processes -l --length -d --distance -c --cycles -r --rounds --read-limit --write-limit --seed --capacity'
+            valued='--name --format --like --preset -s --core -p --processes -l --length -d --distance -c --cycles -r --rounds --read-limit --write-limit --seed --capacity'
             kinds=('source' 'source')
+            further='source'
             ;;
         'create')
             options='--overwrite --draw-seed -h --help --like --preset -s --core -p --processes -l --length -d --distance -c --cycles -r --rounds --read-limit --write-limit --seed --capacity'
@@ -30,12 +31,13 @@ _koth_takes() {
             kinds=('file')
             ;;
         'submit')
-            options='--wait --plain --table -h --help'
-            valued='--wait'
+            options='--wait --name --plain --table --format -h --help'
+            valued='--wait --name --format'
             kinds=('file' 'source')
             ;;
         'show')
-            options='--matches --settings --with-seed --plain --table -h --help'
+            options='--matches --settings --with-seed --plain --table --format -h --help'
+            valued='--format'
             kinds=('file')
             ;;
         'serve')
@@ -44,7 +46,8 @@ _koth_takes() {
             kinds=('file')
             ;;
         'audit')
-            options='-h --help'
+            options='--format -h --help'
+            valued='--format'
             kinds=('file')
             ;;
         'migrate')
@@ -56,12 +59,13 @@ _koth_takes() {
             kinds=('file')
             ;;
         'replay')
-            options='--round -h --help --like --preset -s --core -p --processes -l --length -d --distance -c --cycles -r --rounds --read-limit --write-limit --seed --capacity'
-            valued='--round --like --preset -s --core -p --processes -l --length -d --distance -c --cycles -r --rounds --read-limit --write-limit --seed --capacity'
+            options='--name -o --output --round --lost --won --tied -h --help --like --preset -s --core -p --processes -l --length -d --distance -c --cycles -r --rounds --read-limit --write-limit --seed --capacity'
+            valued='--name -o --output --round --like --preset -s --core -p --processes -l --length -d --distance -c --cycles -r --rounds --read-limit --write-limit --seed --capacity'
             kinds=('source' 'source')
             ;;
         'try')
-            options='--plain --table -h --help'
+            options='--name --plain --table --format -h --help'
+            valued='--name --format'
             kinds=('file' 'source')
             ;;
         'copy')
@@ -87,15 +91,23 @@ _koth_value() {
         'asm --like') kind='file' ;;
         'asm --preset') kind='94nop tiny nano' ;;
         'check --format') kind='text json' ;;
+        'check --deny') kind='warnings' ;;
         'check --like') kind='file' ;;
         'check --preset') kind='94nop tiny nano' ;;
+        'fight --format') kind='text json' ;;
         'fight --like') kind='file' ;;
         'fight --preset') kind='94nop tiny nano' ;;
         'create --like') kind='file' ;;
         'create --preset') kind='94nop tiny nano' ;;
+        'submit --format') kind='text json' ;;
+        'show --format') kind='text json' ;;
         'serve --preset') kind='94nop tiny nano' ;;
+        'audit --format') kind='text json' ;;
+        'replay -o') kind='file' ;;
+        'replay --output') kind='file' ;;
         'replay --like') kind='file' ;;
         'replay --preset') kind='94nop tiny nano' ;;
+        'try --format') kind='text json' ;;
         *[\<\>]) kind='file' ;;
     esac
 }
