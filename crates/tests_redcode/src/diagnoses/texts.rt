@@ -97,7 +97,7 @@ fn repeated(rt: &(impl Abort + AllocGlobal), line: &str, count: usize) -> String
 /// `count` times a line has refusals of this text.
 fn check_repeated(rt: &(impl Abort + AllocGlobal), line: &str, count: usize, want: &[u8]) {
     let source = repeated(rt, line, count);
-    check_written(rt, source.as_bytes(), Form::Text, want);
+    check_written(rt, source.as_bytes(), want);
     drop(source);
 }
 
