@@ -3,6 +3,7 @@
 ghost use Rattle.std.specs.Prelude.{◌≡◌, All, IfOk, map};
 ghost use Rattle.{redcode_lines.specs.Place.{IsPlaceIn, line_text}, redcode_asm.specs.Assembly.assembly, redcode_diagnosis.specs.Told.{AreToldFrom, IsFirst, Tells, is_memory}};
 
+use crate::further::{is_twice, put_further};
 use bumpalo::Bump;
 use redcode_asm::assemble;
 use redcode_blame::{Copied, Scene, blame_of, copy_of, further_faults};
@@ -29,7 +30,8 @@ pub struct Diagnosis<A: Allocator> {
 ///
 /// The first is the assembler's. After it stand those of the other lines that have a fault by themselves, a false assertion included:
 /// each line of the source once, in the order in which they are written out, up to 100 refusals in all. If the source can't be written
-/// out, the first is the only one. It fails when memory runs out.
+/// out, the first is the only one; but after a name that is defined twice stand the refusals of the source without that. It fails when
+/// memory runs out.
 pub fn diagnose<A: Allocator + Copy>(
     alloc: A,
     source: &[u8],
@@ -57,6 +59,41 @@ fn diagnose_refused<A: Allocator + Copy>(
     if is_memory(first.kind) {
         return Err(AllocError);
     }
+    let all = told_alone(alloc, source, settings, first)?;
+    if is_twice(first.kind) {
+        with_further(alloc, source, settings, first, all)
+    } else {
+        Ok(all)
+    }
+}
+
+/// The refusals of a source in which a name is defined twice: the first, and those that it has beside that.
+fn with_further<A: Allocator + Copy>(
+    alloc: A,
+    source: &[u8],
+    settings: &Settings,
+    first: AsmFault,
+    mut all: Vec<Diagnosis<A>, A>,
+) -> Result<Vec<Diagnosis<A>, A>, AllocError>
+    requires told { IsFirst first (map (λ d. d.fault) all.items) }
+    requires placed { All (λ d. IsPlaceIn (line_text source.now d.fault.line) d.column d.width) all.items }
+    ensures told { IfOk result (λ all. IsFirst first (map (λ d. d.fault) all.items)) }
+    ensures placed { IfOk result (λ all. All (λ d. IsPlaceIn (line_text source.now d.fault.line) d.column d.width) all.items) }
+{
+    put_further(alloc, source, settings, &mut all)?;
+    Ok(all)
+}
+
+/// The refusals from the first on, of the source as it is.
+fn told_alone<A: Allocator + Copy>(
+    alloc: A,
+    source: &[u8],
+    settings: &Settings,
+    first: AsmFault,
+) -> Result<Vec<Diagnosis<A>, A>, AllocError>
+    ensures told { IfOk result (λ all. IsFirst first (map (λ d. d.fault) all.items)) }
+    ensures placed { IfOk result (λ all. All (λ d. IsPlaceIn (line_text source.now d.fault.line) d.column d.width) all.items) }
+{
     let region = Bump::new(alloc);
     told_within(alloc, &region, source, settings, first)
 }
@@ -90,14 +127,14 @@ fn told_from<A: Allocator + Copy>(
 }
 
 /// Whether a fault is that memory ran out.
-fn is_memory(kind: AsmKind) -> bool
+pub(crate) fn is_memory(kind: AsmKind) -> bool
     ensures { result ≡ is_memory kind }
 {
     matches!(kind, AsmKind::Memory)
 }
 
 /// The first fault, and the faults of the other lines.
-fn faults_from<A: Allocator + Copy>(
+pub(crate) fn faults_from<A: Allocator + Copy>(
     scene: &Scene<'_, A>,
     first: AsmFault,
 ) -> Result<Vec<AsmFault, A>, AllocError>
@@ -138,7 +175,7 @@ fn told_all<A: Allocator + Copy>(
 }
 
 /// A fault, as it is reported to people.
-fn told<A: Allocator + Copy>(
+pub(crate) fn told<A: Allocator + Copy>(
     scene: &Scene<'_, A>,
     source: &[u8],
     fault: AsmFault,

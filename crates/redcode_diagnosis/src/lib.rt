@@ -10,6 +10,7 @@
 #![tactic(auto)]
 
 mod diagnosis;
+mod further;
 mod text;
 
 pub use diagnosis::{Diagnosis, diagnose};

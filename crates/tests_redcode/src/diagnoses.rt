@@ -57,7 +57,7 @@ const BLOCKS: [(&str, &str); 17] = rows! {
     "i FOR 4097\nDAT i\nROF"
         => "2:1+5 ForLimit: more than 4096 lines are written out, counted in every copy of a block";
     "x\nx" => "2:1+1 DuplicateName: `x` is defined already, in line 1";
-    "MVO 0, 1\nMVO 0, 1"
+    "MVO DAT 0\nMVO 0, 1"
         => "2:1+3 DuplicateName: `MVO` is defined already, in line 1; did you mean the operation `MOV`?";
     "CORESIZE DAT 0" => "1:1+8 DuplicateName: `CORESIZE` is a predefined name, and can't be defined";
     "MAXLENGTH EQU 5" => "1:1+9 DuplicateName: `MAXLENGTH` is a predefined name, and can't be defined";

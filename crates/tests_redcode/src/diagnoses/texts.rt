@@ -67,11 +67,14 @@ fn lines_of(rt: &(impl Abort + AllocGlobal), source: &[u8]) -> Vec<u32> {
 }
 
 /// Sources with several faults, and the lines to blame.
-const FAULTY_LINES: [(&str, &[u32]); 4] = rows! {
+const FAULTY_LINES: [(&str, &[u32]); 7] = rows! {
     "DAT foo\nDAT ok\nok\nDAT 1/0\n;assert 0\nJMP\n" => &[1, 4, 5, 6];
     ";assert 0\nDAT 0\nEND 1" => &[3, 1];
     "i FOR 3\nDAT 1/(i-2)\nDAT x\nROF" => &[3, 2];
-    "DAT foo\nx\nx" => &[3];
+    "DAT foo\nx\nx" => &[3, 1];
+    "MVO 0, 1\nMVO 0, 1" => &[2, 1];
+    "a DAT 0\na DAT 1\nMVO 0\nb DAT x\nb DAT 2" => &[2, 5, 3, 4];
+    "x EQU 1\nx EQU 2\nDAT y" => &[2, 3];
 };
 
 /// These lines are to blame for a source's faults.
@@ -81,7 +84,7 @@ fn check_lines(rt: &(impl Abort + AllocGlobal), source: &str, want: &[u32]) {
     drop(found);
 }
 
-/// Each faulty line is reported once, the assembler's first, if the source can be written out.
+/// Each faulty line is reported once, the assembler's first, if the source can be written out, or could be but for names that are defined twice.
 #[test]
 fn several_faults(rt: HostRuntime) {
     for (source, want) in &FAULTY_LINES {

@@ -1,0 +1,187 @@
+//! What else is refused of a source in which a name is defined twice.
+
+ghost use Rattle.std.specs.Prelude.{OnOk};
+ghost use Rattle.redcode_diagnosis.specs.Further.{PutsFurther};
+
+use crate::diagnosis::{Diagnosis, faults_from, is_memory, told};
+use bumpalo::Bump;
+use redcode_asm::assemble;
+use redcode_blame::Scene;
+use std::alloc::{AllocError, Allocator};
+use war_types::{AsmFault, AsmKind, Settings};
+
+/// Most names that are defined twice and passed over, and lines beside them.
+const MOST: u32 = 100;
+
+/// Most refusals in all.
+const MOST_TOLD: usize = 100;
+
+/// A part of a line: columns are counted from 1.
+#[derive(Clone, Copy)]
+struct Place {
+    line: u32,
+    column: u32,
+    width: u32,
+}
+
+/// Whether a fault is that a name is defined twice.
+pub(crate) fn is_twice(kind: AsmKind) -> bool {
+    matches!(kind, AsmKind::DuplicateName)
+}
+
+/// Puts the refusals of lines of a source in which a name is defined twice, after the one of that name, each line once: those that it has if
+/// such names are blanked out, one after the other. A line that is refused all the same is blanked out whole.
+pub(crate) fn put_further<A: Allocator + Copy>(
+    alloc: A,
+    source: &[u8],
+    settings: &Settings,
+    all: &mut Vec<Diagnosis<A>, A>,
+) -> Result<(), AllocError>
+    ensures { OnOk result (PutsFurther source.now all.old.items all.new.items) }
+{
+    let mut text = Vec::new(alloc);
+    text.extend_from_slice(source)?;
+    let mut next = newest(all.as_slice());
+    for _ in 0..MOST {
+        let Some(place) = next else {
+            return Ok(());
+        };
+        blank(text.as_mut_slice(), place);
+        let Err(first) = assemble(alloc, text.as_slice(), settings) else {
+            return Ok(());
+        };
+        let known = is_told(all.as_slice(), first.line);
+        put_round(alloc, source, text.as_slice(), settings, first, all)?;
+        next = next_place(all.as_slice(), first, known);
+    }
+    Ok(())
+}
+
+/// What is blanked out next: a name that was found to be defined twice, or a line that is refused though it was told already.
+fn next_place<A: Allocator>(all: &[Diagnosis<A>], first: AsmFault, known: bool) -> Option<Place> {
+    if known {
+        return Some(Place {
+            line: first.line,
+            column: 1,
+            width: u32::MAX,
+        });
+    }
+    if is_twice(first.kind) {
+        return newest(all);
+    }
+    None
+}
+
+/// The place of the newest refusal.
+fn newest<A: Allocator>(all: &[Diagnosis<A>]) -> Option<Place> {
+    let last = all.last()?;
+    Some(Place {
+        line: last.fault.line,
+        column: last.column,
+        width: last.width,
+    })
+}
+
+/// Whether a refusal of this line is among these.
+fn is_told<A: Allocator>(all: &[Diagnosis<A>], line: u32) -> bool {
+    for diagnosis in all {
+        if diagnosis.fault.line == line {
+            return true;
+        }
+    }
+    false
+}
+
+/// Puts blanks in the place of a part of a line.
+fn blank(text: &mut [u8], place: Place) {
+    let mut line: u32 = 1;
+    let mut column: u32 = 1;
+    for at in 0..text.len() {
+        if text[at] == b'\n' {
+            line = line.saturating_add(1);
+            column = 1;
+        } else {
+            if line == place.line && column >= place.column && column - place.column < place.width {
+                text[at] = b' ';
+            }
+            column = column.saturating_add(1);
+        }
+    }
+}
+
+/// Puts the refusals of a text whose lines are as long as those of the source, by places in these. The first is that of the assembler.
+fn put_round<A: Allocator + Copy>(
+    alloc: A,
+    source: &[u8],
+    text: &[u8],
+    settings: &Settings,
+    first: AsmFault,
+    all: &mut Vec<Diagnosis<A>, A>,
+) -> Result<(), AllocError>
+    ensures { OnOk result (PutsFurther source.now all.old.items all.new.items) }
+{
+    if is_memory(first.kind) {
+        return Err(AllocError);
+    }
+    let region = Bump::new(alloc);
+    put_within(alloc, &region, source, text, settings, first, all)
+}
+
+/// The same with this region for what is known of the text.
+fn put_within<'s, A: Allocator + Copy>(
+    alloc: A,
+    region: &'s Bump<A>,
+    source: &[u8],
+    text: &'s [u8],
+    settings: &'s Settings,
+    first: AsmFault,
+    all: &mut Vec<Diagnosis<A>, A>,
+) -> Result<(), AllocError>
+    ensures { OnOk result (PutsFurther source.now all.old.items all.new.items) }
+{
+    let scene = Scene::new(alloc, region, text, settings)?;
+    put_from(&scene, source, first, all)
+}
+
+fn put_from<A: Allocator + Copy>(
+    scene: &Scene<'_, A>,
+    source: &[u8],
+    first: AsmFault,
+    all: &mut Vec<Diagnosis<A>, A>,
+) -> Result<(), AllocError>
+    ensures { OnOk result (PutsFurther source.now all.old.items all.new.items) }
+{
+    let faults = faults_from(scene, first)?;
+    put_all(scene, source, faults.as_slice(), all)
+}
+
+/// Puts these faults, but for those of lines that are told already.
+fn put_all<A: Allocator + Copy>(
+    scene: &Scene<'_, A>,
+    source: &[u8],
+    faults: &[AsmFault],
+    all: &mut Vec<Diagnosis<A>, A>,
+) -> Result<(), AllocError>
+    ensures { OnOk result (PutsFurther source.now all.old.items all.new.items) }
+{
+    for fault in faults {
+        put_new(scene, source, *fault, all)?;
+    }
+    Ok(())
+}
+
+fn put_new<A: Allocator + Copy>(
+    scene: &Scene<'_, A>,
+    source: &[u8],
+    fault: AsmFault,
+    all: &mut Vec<Diagnosis<A>, A>,
+) -> Result<(), AllocError>
+    ensures { OnOk result (PutsFurther source.now all.old.items all.new.items) }
+{
+    if fault.line == 0 || all.len() >= MOST_TOLD || is_told(all.as_slice(), fault.line) {
+        return Ok(());
+    }
+    let diagnosis = told(scene, source, fault)?;
+    all.push(diagnosis)?;
+    Ok(())
+}
