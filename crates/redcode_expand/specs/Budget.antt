@@ -1,11 +1,11 @@
 -- The most steps that an expansion takes.
 use Rattle.std.specs.Prelude.{ℕ, ◌+◌, ◌*◌, ◌^◌}
 
--- more than a line takes, of a source of this length: its tokens are read for each block that is open, and replaced in 16 rounds
+-- more than the steps of a line in a source of this length: its tokens are read for each block that is open, and replaced in 16 rounds
 abbrev pub line_steps : ℕ → ℕ
 line_steps length = (length + 1) * (length + 16385)
 
--- more than the steps of so many lines that are walked over, each with this many at most
+-- the steps that this number of lines take if each takes `most`
 unfoldable pub steps_of : ℕ → ℕ → ℕ
 steps_of most lines = most * lines
 

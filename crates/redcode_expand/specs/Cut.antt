@@ -14,7 +14,7 @@ first_bad (token ∷ tokens) = if is_bad token then token ∷ [] else first_bad 
 unfoldable pub cut_tokens : List Piece → List Piece
 cut_tokens tokens = take 516 tokens ++ first_bad (drop 516 tokens)
 
--- the lines that have operands or an expression: more than 512 of them are refused, whatever they are
+-- the lines that have operands or an expression: more than 512 tokens of these are refused, whatever they are
 abbrev pub is_limited : LineKind → Bool
 is_limited LineKind.Operation = true
 is_limited LineKind.Org = true
@@ -35,7 +35,7 @@ cut_lines lines = map cut_line lines
 abbrev pub cut_walk : WalkState → WalkState
 cut_walk st = walk_state st.counted st.before (cut_names st.names) (cut_lines st.lines) st.ended
 
--- the walk that was found, so
+-- the walk that was found, cut so
 abbrev pub with_cut : Result WalkState AsmFault → Result WalkState AsmFault
 with_cut found = found >>= λ st. Ok (cut_walk st)
 
@@ -57,6 +57,6 @@ shown_lines lines = map shown_line lines
 abbrev pub shown : Expansion → Expansion
 shown expanded = record { lines = shown_lines expanded.lines; labels = expanded.labels }
 
--- the expansion that was found, so
+-- what is shown of the expansion that was found
 abbrev pub with_shown : Result Expansion AsmFault → Result Expansion AsmFault
 with_shown found = found >>= λ expanded. Ok (shown expanded)

@@ -10,7 +10,7 @@ pub record Expansion : Type 0 where
   pub lines : List ExpandedLine
   pub labels : LabelList
 
--- the tokens before them
+-- the tokens before the operands
 abbrev pub before_operands : LineKind → List Piece → List Piece
 before_operands kind tokens = take (length tokens - length (operands_of kind tokens)) tokens
 
@@ -28,7 +28,7 @@ all_replaced equs (line ∷ others) = line_replaced equs line >>= λ first. all_
 abbrev pub with_names : Names → List ExpandedLine → Result Expansion AsmFault
 with_names names lines = all_replaced names.equs lines >>= λ made. Ok (record { lines = made; labels = names.labels })
 
--- what the walk has found, so
+-- the same of what the walk has found
 abbrev pub finished : WalkState → Result Expansion AsmFault
 finished st = with_names st.names st.lines
 

@@ -44,8 +44,8 @@ pub record IsPlace (lines : List ExpandedLine) (address : ℕ) : Type 0 where
   pub within : behind ≤ length lines
   pub counts : address ≡ instructions (take behind lines)
 
--- whatever is walked over, the number of instructions so far is that of the instructions among its lines: so a label, which gets that number for its
--- address (`labelled`), stands behind so many instructions
+-- whatever is walked over, the number of instructions so far is that of the instructions among its lines: a label gets that number for its address
+-- (`labelled`), so that is the number of instructions before it
 abbrev pub LabelsStandBehindInstructions : RawSettings → Type 0
 LabelsStandBehindInstructions s = (source : Parsed) → IfOk (walk_all s source walk_begin) (λ st. st.before ≡ instructions st.lines)
 

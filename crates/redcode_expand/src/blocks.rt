@@ -231,12 +231,12 @@ fn end_copy<'s, A: Allocator + Copy>(
             kind: AsmKind::UnmatchedRof,
         });
     };
-    walk.end_copy(block.number(), block.start())?;
-    if block.left() == 0 {
+    walk.end_copy(block.number, block.start)?;
+    if block.left == 0 {
         close(settings, walk, blocks, lines, at)?;
         return Ok(at + 1);
     }
-    let body = block.body();
+    let body = block.body;
     blocks.push(block.next_copy(walk.counted()))?;
     Ok(body)
 }

@@ -34,7 +34,7 @@ impl<'s, A: Allocator> Model for Entry<'s, A> {
     ghost view = { λ e. record { source_line = e.line.source_line; kind = e.line.kind; word = e.word; before = e.line.before; title = e.title.now; tokens = pieces e.tokens.items } };
 }
 
-/// Of the tokens of a line of this kind no more than shows what is wrong with it.
+/// The tokens that are kept of a line of this kind: no more than show what is wrong with it.
 pub(crate) fn cut<'s, A: Allocator>(
     alloc: A,
     kind: LineKind,

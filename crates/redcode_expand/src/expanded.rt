@@ -145,7 +145,7 @@ fn unchanged<'s, A: Allocator + Copy>(
     Ok(entries)
 }
 
-/// No more than these are counted when the names of `EQU`s are replaced in all operands.
+/// The most steps that are counted while the names of `EQU`s are replaced in all operands.
 const REPLACING: u64 = 1 << 32;
 
 /// Replaces the names of EQUs in the operands of all lines.

@@ -1,8 +1,8 @@
 //! A source written out: its blocks copy by copy, the names of its `EQU`s replaced, its labels with their addresses.
 //!
 //! `marked_lines` pairs each `FOR` with its `ROF`. `blocks` goes from line to line and from copy to copy, with the blocks that are open in
-//! `open_blocks`. `beginning` is what a `FOR` does, with the counts of blocks in `count` and `counts`; `same_counts` finds those that
-//! read the same, and `passing` goes past blocks without a copy. `walk` is what any other line does: it counts, defines names, and is a
+//! `open_blocks`. `beginning` has what a `FOR` does, with the counts of blocks in `count` and `counts`; `same_counts` finds those that
+//! read the same, and `passing` goes past blocks without a copy. `walk` has what any other line does: it counts, defines names, and is a
 //! line of the expanded source (`entry`). `expanded` replaces the names of `EQU`s when all are known, and has the result. `steps` is a
 //! budget of what all this may take.
 //!

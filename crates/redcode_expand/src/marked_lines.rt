@@ -35,7 +35,7 @@ pub(crate) struct Mark {
     pub rof: usize,
     /// Whether an `&` is among its tokens.
     pub joins: bool,
-    /// The index of a line with the same tokens; the same index for many lines whose counts read alike.
+    /// The index of a line with the same tokens. Lines that read alike seldom have different ones.
     pub count: usize,
 }
 
@@ -97,7 +97,8 @@ impl<'l, 's, A: Allocator + Copy> MarkedLines<'l, 's, A> {
         ensures { line_read result ≡ shortened (line_in self.now at) }
     {
         let line = self.reading(at);
-        if !self.is_long(at) {
+        let mark = self.marks[at];
+        if !mark.is_long {
             return line;
         }
         let (tokens, _) = line.tokens.split_at(MOST_TOKENS);
@@ -109,14 +110,6 @@ impl<'l, 's, A: Allocator + Copy> MarkedLines<'l, 's, A> {
             front: line.front,
             tokens,
         }
-    }
-
-    /// Whether it has too many operands in each copy.
-    fn is_long(&self, at: usize) -> bool
-        requires { at < length self.now }
-        ensures { result ≡ is_long (line_in self.now at) }
-    {
-        self.marks[at].is_long
     }
 
     /// Its number in the source, counted from 1.
@@ -178,8 +171,8 @@ impl<'l, 's, A: Allocator + Copy> MarkedLines<'l, 's, A> {
 }
 
 impl Mark {
-    /// The mark of a line. `rof` is the index of the first `ROF` after it whose `FOR` isn't after it, and `count` of a line that reads the
-    /// same.
+    /// The mark of a line. `rof` is the index of the first `ROF` after it whose `FOR` isn't after it, and `count` that of a line that
+    /// reads the same.
     fn of(line: Reading<'_, '_>, rof: usize, count: usize) -> Mark
         ensures edge { result.edge ≡ edge_of (line_read line.entry).word }
         ensures bare { result.is_bare ≡ is_bare (line_read line.entry) }

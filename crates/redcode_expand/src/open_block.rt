@@ -6,11 +6,15 @@ use std::marker::Model;
 /// A block whose copies are being written.
 #[derive(Drop)]
 pub(crate) struct OpenBlock<'s> {
-    number: u32,
+    /// The number of its `FOR` line.
+    pub number: u32,
     pub counter: Counter<'s>,
-    left: u64,
-    start: u32,
-    body: usize,
+    /// Copies after the one that is being written.
+    pub left: u64,
+    /// Lines counted before this copy.
+    pub start: u32,
+    /// The index of the first line of its body.
+    pub body: usize,
 }
 
 impl<'s> Model for OpenBlock<'s> {
@@ -69,34 +73,6 @@ impl<'s> OpenBlock<'s> {
         ensures few { result < 2 ^ 63 }
     {
         self.counter.number
-    }
-
-    /// The number of its FOR line.
-    pub(crate) fn number(&self) -> u32
-        ensures { result ≡ self.now.number }
-    {
-        self.number
-    }
-
-    /// Copies after the one that is being written.
-    pub(crate) fn left(&self) -> u64
-        ensures { result ≡ self.now.left }
-    {
-        self.left
-    }
-
-    /// Lines counted before this copy.
-    pub(crate) fn start(&self) -> u32
-        ensures { result ≡ self.now.start }
-    {
-        self.start
-    }
-
-    /// The index of the first line of its body.
-    pub(crate) fn body(&self) -> usize
-        ensures { result ≡ self.now.body }
-    {
-        self.body
     }
 
     /// The next copy, with `start` lines counted before it.

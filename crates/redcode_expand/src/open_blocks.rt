@@ -48,6 +48,7 @@ impl<'s, A: Allocator + Copy> OpenBlocks<'s, A> {
         }
     }
 
+    /// Whether there is none.
     pub(crate) fn is_empty(&self) -> bool
         ensures { result ≡ has_none self.now }
     {
@@ -59,7 +60,7 @@ impl<'s, A: Allocator + Copy> OpenBlocks<'s, A> {
         self.blocks.len()
     }
 
-    /// A block within the others.
+    /// Adds a block within the others.
     pub(crate) fn push(&mut self, block: OpenBlock<'s>) -> Result<(), AllocError>
         ensures { OnOk result (self.new ≡ block.entry ∷ self.old) }
     {
@@ -73,13 +74,6 @@ impl<'s, A: Allocator + Copy> OpenBlocks<'s, A> {
         ensures { MatchOption result ((self.old ≡ []) × (self.new ≡ [])) (λ block. self.old ≡ block ∷ self.new) }
     {
         self.blocks.pop()
-    }
-
-    /// The number of the outermost counter of this name.
-    fn copy_number(&self, name: &[u8]) -> Option<u64>
-        ensures { result ≡ number_of (counters_of self.now) name.now }
-    {
-        number_of(&self.names, self.blocks.as_slice(), name)
     }
 
     /// A line within the copies that are being written; `None` if it reads as it stands in the source.
@@ -105,7 +99,7 @@ impl<A: Allocator + Copy> Counters for OpenBlocks<'_, A> {
     ghost counters = { λ blocks. counters_of blocks };
 
     fn number_of(&self, name: &[u8]) -> Option<u64> {
-        self.copy_number(name)
+        number_of(&self.names, self.blocks.as_slice(), name)
     }
 }
 

@@ -97,6 +97,7 @@ pub(crate) fn pass<'s, A: Allocator + Copy>(
     Ok(rof + 1)
 }
 
+/// The fault of a `FOR` without a `ROF`, on the line of this number.
 pub(crate) fn unmatched_for(number: u32) -> AsmFault
     ensures { result ≡ fault_at number UnmatchedFor }
 {

@@ -74,7 +74,7 @@ fn is_same(token: &Token<'_>, other: &Token<'_>) -> bool
     token.kind == other.kind && token.text == other.text
 }
 
-/// A sum of the texts of tokens: lists that are the same have the same, and others seldom.
+/// A sum of the texts of tokens: lists that are the same have the same sum, and others seldom.
 fn sum_of(tokens: &[Token<'_>]) -> usize {
     let mut sum: usize = 0;
     for token in tokens {

@@ -24,6 +24,7 @@ const LINE_LIMIT: u32 = 4096;
 pub(crate) struct Walk<'s, A: Allocator + Copy> {
     pub alloc: A,
     counted: u32,
+    /// Instructions so far.
     pub before: u32,
     pub names: Names<'s, A>,
     entries: Vec<Entry<'s, A>, A>,
@@ -73,13 +74,6 @@ impl<'s, A: Allocator + Copy> Walk<'s, A> {
         ensures { result ≡ self.now.counted }
     {
         self.counted
-    }
-
-    /// Instructions so far.
-    pub(crate) fn before(&self) -> u32
-        ensures { result ≡ self.now.before }
-    {
-        self.before
     }
 
     /// Walks over a line within blocks.
