@@ -43,11 +43,6 @@ pub(crate) fn set<A: Allocator>(rt: &impl Abort, device: &mut MemoryDevice<A>, n
     device.set(n, &[byte; 512]);
 }
 
-/// A sync that is done.
-pub(crate) fn sync<D: Device>(rt: &impl Abort, device: &mut D) {
-    expect_same(rt, &device.sync(), &Ok(()), "a sync");
-}
-
 /// A sync that fails, and counts one more than `faults`.
 fn expect_refused<D: Device>(rt: &impl Abort, device: &mut D, faults: u64) {
     expect_faults(rt, device, faults);
@@ -144,7 +139,7 @@ pub(crate) fn take<D: Device>(rt: &impl Abort, device: &mut D, step: Step) {
         Step::Read(n, byte) => expect_read(rt, device, n, byte),
         Step::Unread(n) => expect_unread(rt, device, n),
         Step::Unwritten(n, faults) => expect_unwritten(rt, device, n, faults),
-        Step::Sync => sync(rt, device),
+        Step::Sync => expect_same(rt, &device.sync(), &Ok(()), "a sync"),
         Step::Refused(faults) => expect_refused(rt, device, faults),
     }
 }

@@ -3,10 +3,10 @@
 ghost use Rattle.std.specs.Prelude.{⊤};
 
 use crate::calls::{expect_same, expect_sectors};
-use crate::file_calls::{NEVER, expect_calls, expect_done};
-use crate::watched::{Calls, forget, new_calls, note};
+use crate::file_calls::{NEVER, call, expect_calls, expect_done};
+use crate::watched::{Calls, forget, note};
 use hill_file::{CarefulDevice, Headers, SectorFile};
-use sector_disk::{Device, Fault};
+use sector_disk::Fault;
 use std::cell::Cell;
 use std::process::Abort;
 
@@ -120,22 +120,14 @@ fn opened<'c>(
     device
 }
 
-/// A write to the second sector of a device, or a sync.
-fn call<D: Device>(device: &mut D, which: u8) -> Result<(), Fault> {
-    if which == b'w' && 1 < device.sectors() {
-        return device.write(1, &[7; 512]);
-    }
-    device.sync()
-}
-
-/// Another program writes to the first sector before each of these calls in turn. That is noticed at the next look, and what it wrote stays
-/// as it is; but in the one `window` there is, between a look and the write after it, or at no call if that is `NEVER`.
+/// Another program writes to the first sector before each of these calls in turn. The next look notices it, and what it wrote stays as it is.
+/// The one exception is the call `window`, the write right after a look; there is none if that is `NEVER`.
 fn expect_noticed(rt: &impl Abort, doubt: bool, which: u8, script: &[u8], window: usize) {
     let held = Cell::new(Held {
         bytes: [0; 3],
         other: NEVER,
     });
-    let calls = new_calls(NEVER);
+    let calls = Cell::new(Calls::none(NEVER));
     for other in 0..script.len() {
         let mut device = opened(rt, &held, &calls, doubt);
         begin(&held, &calls, other);
@@ -149,7 +141,8 @@ fn expect_noticed(rt: &impl Abort, doubt: bool, which: u8, script: &[u8], window
     }
 }
 
-/// A write of another sector leaves what was copied in as it is, but its own window is seen by the next look.
+/// A write to the second sector is done if the other program writes right before it, and leaves what that wrote. A sync of a device in doubt
+/// writes over it.
 #[test]
 fn another_writer_at_each_call(rt: HostRuntime) {
     expect_noticed(&rt, false, b'w', &WRITTEN, 2);
@@ -164,7 +157,7 @@ fn calls_of_a_careful_device(rt: HostRuntime) {
         bytes: [0; 3],
         other: NEVER,
     });
-    let calls = new_calls(NEVER);
+    let calls = Cell::new(Calls::none(NEVER));
     let mut device = opened(&rt, &held, &calls, true);
     expect_done(&rt, &calls, &mut device, b'w', &WRITTEN);
     expect_done(&rt, &calls, &mut device, b'y', &DOUBTED);

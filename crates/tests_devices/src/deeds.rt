@@ -1,18 +1,16 @@
 //! What is done at the path of a hill's file.
 
 use crate::disk::{
-    copy, create_folder, expect_blocks_below, expect_blocks_from, expect_bytes, expect_nothing,
-    expect_private, expect_zeros, link, make_hole, remove_beside, remove_folder, rename,
-    set_length, write_file, write_zeros_and,
+    copy, create_folder, expect_blocks, expect_bytes, expect_nothing, expect_private, expect_zeros,
+    link, remove, remove_folder, rename, set_length, write_file, write_filled,
 };
 use crate::hill_files::{
-    expect_kept, expect_locked, expect_made, expect_none_made, expect_none_within, expect_opened,
+    expect_kept, expect_locked, expect_made, expect_none_within, expect_opened,
     expect_opened_beside,
 };
 use crate::places::AtPath;
 use hill_file::{Existing, OpenFault, Sharing};
 use std::fs::File;
-use std::io::ErrorKind;
 use std::process::Abort;
 use std::rt::Files;
 
@@ -25,10 +23,8 @@ pub(crate) enum Deed<'t> {
     Write(&'t [u8]),
     /// A file is written: the number of its zeros, and the one byte after them.
     WriteZeros(usize, u8),
-    /// The file gets another length.
+    /// The file gets another length. Zeros by which it is longer are not on the disk.
     SetLength(u64),
-    /// A file of this length is made, with none of its bytes on the disk.
-    MakeHole(u64),
     /// A file like the first one is at the second path from now on.
     Copy(&'t str, &'t str),
     /// The first file is at the second path from now on.
@@ -45,16 +41,12 @@ pub(crate) enum Deed<'t> {
     Holds(&'t [u8]),
     /// The file has this length, and each byte is zero.
     Zeros(usize),
-    /// It takes fewer blocks on the disk than this.
-    BlocksBelow(u64),
-    /// It takes this number of blocks or more.
-    BlocksFrom(u64),
+    /// The least and the most blocks that it takes on the disk.
+    Blocks(u64, u64),
     /// It lies on the disk with three sectors, and is its owner's alone.
     Private,
     /// Making a hill's file with this number of sectors ends so.
     Make(u32, Existing, Result<u32, OpenFault>),
-    /// Making one ends so, whatever may become of a file that is there.
-    NoneMade(ErrorKind),
     /// None is made within what is there, as nothing is.
     NoneWithin,
     /// Opening it ends so.
@@ -70,11 +62,10 @@ pub(crate) enum Deed<'t> {
 impl AtPath for Deed<'_> {
     fn act<R: Files<File = File> + AllocGlobal + Abort>(&self, rt: &R, path: &str) {
         match *self {
-            Deed::Remove(suffix) => remove_beside(rt, path, suffix),
+            Deed::Remove(suffix) => remove(rt, path, suffix),
             Deed::Write(bytes) => write_file(rt, path, bytes),
-            Deed::WriteZeros(zeros, last) => write_zeros_and(rt, path, zeros, last),
+            Deed::WriteZeros(zeros, last) => write_filled(rt, path, 0, zeros, &[last]),
             Deed::SetLength(bytes) => set_length(rt, path, bytes),
-            Deed::MakeHole(bytes) => make_hole(rt, path, bytes),
             Deed::Copy(from, to) => copy(rt, path, from, to),
             Deed::Rename(from, to) => rename(rt, path, from, to),
             Deed::Link(to) => link(rt, path, to),
@@ -83,11 +74,9 @@ impl AtPath for Deed<'_> {
             Deed::Nothing => expect_nothing(rt, path),
             Deed::Holds(bytes) => expect_bytes(rt, path, bytes),
             Deed::Zeros(length) => expect_zeros(rt, path, length),
-            Deed::BlocksBelow(count) => expect_blocks_below(rt, path, count),
-            Deed::BlocksFrom(count) => expect_blocks_from(rt, path, count),
+            Deed::Blocks(least, most) => expect_blocks(rt, path, least, most),
             Deed::Private => expect_private(rt, path),
             Deed::Make(asked, existing, answer) => expect_made(rt, path, asked, existing, answer),
-            Deed::NoneMade(kind) => expect_none_made(rt, path, kind),
             Deed::NoneWithin => expect_none_within(rt, path),
             Deed::Open(sharing, answer) => expect_opened(rt, path, sharing, answer),
             Deed::OpenBeside => expect_opened_beside(rt, path),

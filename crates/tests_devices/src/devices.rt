@@ -1,7 +1,7 @@
 //! A device in memory, call by call.
 
 use crate::calls::{
-    Step, expect_faults, expect_stopped, expect_text, in_memory, set, sync, take_all, write,
+    Step, expect_faults, expect_stopped, expect_text, in_memory, set, take, take_all, write,
 };
 use sector_disk::{Fault, MemoryDevice, each_image_is_chosen, laws_of_images};
 use std::alloc::Global;
@@ -21,7 +21,7 @@ fn call_each(rt: &impl Abort, device: &mut MemoryDevice<Global>) {
     take_all(rt, device, &WRITTEN);
     expect_stopped(rt, device, &[], 1, 0);
 
-    sync(rt, device);
+    take(rt, device, Step::Sync);
     expect_stopped(rt, device, &[], 1, 2);
 
     write(rt, device, 1, 3);

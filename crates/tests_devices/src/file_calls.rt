@@ -4,7 +4,7 @@ use crate::calls::{expect_faults, expect_same};
 use crate::disk::remove;
 use crate::files::sectors_made;
 use crate::places::{AtPath, at_place};
-use crate::watched::{Calls, WatchedFiles, forget, new_calls};
+use crate::watched::{Calls, WatchedFiles, forget};
 use sector_disk::{Device, Fault, FileDevice, FileFault};
 use std::cell::Cell;
 use std::fmt::Debug;
@@ -40,7 +40,7 @@ impl AtPath for FileCall {
             }
             FileCall::FailMaking => fail_making(rt, path),
             FileCall::Open => expect_each_call(rt, path),
-            FileCall::Remove => remove(rt, path),
+            FileCall::Remove => remove(rt, path, ""),
         }
     }
 }
@@ -60,7 +60,7 @@ fn expect_made(
     answer: Result<u32, FileFault>,
     letters: Option<&[u8]>,
 ) {
-    let calls = new_calls(fails_at);
+    let calls = Cell::new(Calls::none(fails_at));
     let files = WatchedFiles {
         files: rt,
         calls: &calls,
@@ -88,7 +88,7 @@ fn fail_making(rt: &(impl Files<File = File> + AllocGlobal + Abort), path: &str)
         let letters = MADE.get(..fails_at + 1);
         expect_made(rt, path, fails_at, Err(FileFault::Failed), letters);
         if fails_at > 0 {
-            remove(rt, path);
+            remove(rt, path, "");
         }
     }
 }
@@ -106,7 +106,7 @@ fn making_stops_where_a_call_fails(rt: HostRuntime) {
 }
 
 /// A write, a read or a sync of a device of two sectors or more.
-fn call<D: Device>(device: &mut D, which: u8) -> Result<(), Fault> {
+pub(crate) fn call<D: Device>(device: &mut D, which: u8) -> Result<(), Fault> {
     if device.sectors() < 2 {
         return Err(Fault);
     }
@@ -188,19 +188,14 @@ fn expect_each<D: Device + Drop, E: Debug>(
     expect_faults(rt, &device, 5);
 }
 
-/// Each call is made of a device that is opened among these files, which write their calls down.
-fn open_among<R: Files>(rt: &impl Abort, files: &R, calls: &Cell<Calls>, path: &str) {
-    expect_each(rt, calls, FileDevice::open(files, path));
-}
-
-/// Each call is made of a device that is opened.
+/// Each call is made of a device that is opened among files that write their calls down.
 fn expect_each_call(rt: &(impl Files<File = File> + Abort), path: &str) {
-    let calls = new_calls(NEVER);
+    let calls = Cell::new(Calls::none(NEVER));
     let files = WatchedFiles {
         files: rt,
         calls: &calls,
     };
-    open_among(rt, &files, &calls, path);
+    expect_each(rt, &calls, FileDevice::open(&files, path));
 }
 
 /// A device of three sectors is made, and each call is made of it when it is opened.

@@ -3,7 +3,7 @@
 use crate::calls::{Step, expect_same, expect_text, read, sectors_of};
 use crate::deeds::Deed;
 use crate::disk::{
-    create_folder, expect_bytes, expect_nothing, remove, remove_folder, write_sixes,
+    create_folder, expect_bytes, expect_nothing, remove, remove_folder, write_filled,
 };
 use crate::places::{AtPath, Turn, at_place, by_turns, on_device};
 use sector_disk::{Device, FileDevice, FileFault};
@@ -34,22 +34,16 @@ enum FileDeed {
     OnMade(&'static [Step]),
     /// These calls are made of a device that is opened.
     OnOpened(&'static [Step]),
-    /// The file holds what `FILL` writes.
-    HoldsWritten,
-    /// The file holds 1,024 bytes of 6, and then as many zeros.
-    HoldsExtended,
+    /// The file holds these sectors.
+    Holds(&'static [[u8; 512]]),
     /// A file of this length is written, each byte 6.
     WriteSixes(usize),
-    /// The sectors that a device is made with, and those that it has.
-    Make(u32, u32),
-    /// The bytes of a file, and the sectors of a device that is opened over it.
-    Whole(usize, u32),
+    /// The sectors that a device is made with, and those that it has, or why there is none.
+    Make(u32, Result<u32, FileFault>),
+    /// The sectors of a device that is opened, or why there is none.
+    Open(Result<u32, FileFault>),
     /// The bytes of a part of a sector stay, and zeros follow them.
     PartFilled,
-    /// Nothing opens, since the system refuses it.
-    NotOpened,
-    /// Nor is one made.
-    NotMade,
     /// There is nothing.
     Nothing,
     /// A folder is made.
@@ -67,19 +61,16 @@ impl AtPath for FileDeed {
         match *self {
             FileDeed::OnMade(steps) => try_made(rt, path, steps),
             FileDeed::OnOpened(steps) => try_opened(rt, path, steps),
-            FileDeed::HoldsWritten => expect_written(rt, path),
-            FileDeed::HoldsExtended => expect_extended(rt, path),
-            FileDeed::WriteSixes(count) => write_sixes(rt, path, count),
-            FileDeed::Make(asked, sectors) => expect_made(rt, path, asked, sectors),
-            FileDeed::Whole(count, whole) => expect_whole(rt, path, count, whole),
+            FileDeed::Holds(sectors) => expect_bytes(rt, path, sectors.as_flattened()),
+            FileDeed::WriteSixes(count) => write_filled(rt, path, 6, count, b""),
+            FileDeed::Make(asked, answer) => expect_made(rt, path, asked, answer),
+            FileDeed::Open(answer) => expect_opened(rt, path, answer),
             FileDeed::PartFilled => expect_part_filled(rt, path),
-            FileDeed::NotOpened => expect_not_opened(rt, path),
-            FileDeed::NotMade => expect_not_made(rt, path),
             FileDeed::Nothing => expect_nothing(rt, path),
             FileDeed::CreateFolder => create_folder(rt, path),
             FileDeed::RemoveFolder => remove_folder(rt, path),
             FileDeed::Shorten => shorten(rt, path),
-            FileDeed::Remove => remove(rt, path),
+            FileDeed::Remove => remove(rt, path, ""),
         }
     }
 }
@@ -115,54 +106,48 @@ const FILLED: [Step; 4] = [
 /// What becomes of a file from when it is made until it is removed.
 const LIFE: [FileDeed; 4] = [
     FileDeed::OnMade(&FILL),
-    FileDeed::HoldsWritten,
+    FileDeed::Holds(&[[0; 512], [7; 512], [8; 512]]),
     FileDeed::OnOpened(&FILLED),
     FileDeed::Remove,
 ];
-
-/// The file holds what `FILL` writes.
-fn expect_written(rt: &(impl Files + AllocGlobal + Abort), path: &str) {
-    expect_bytes(rt, path, [[0; 512], [7; 512], [8; 512]].as_flattened());
-}
 
 #[test]
 fn a_file_is_made_written_closed_opened_and_read(rt: HostRuntime) {
     at_place(&rt, rt.process(), "life", &LIFE);
 }
 
-/// A device that is made with `asked` sectors has `sectors`.
-fn expect_made(rt: &(impl Files + AllocGlobal + Abort), path: &str, asked: u32, sectors: u32) {
-    let made = sectors_made(rt, rt.alloc(), path, asked).expect(rt, "it is made");
-    expect_same(rt, &made, &sectors, format_args!("{asked} asked"));
+/// Making a device with `asked` sectors ends so.
+fn expect_made(
+    rt: &(impl Files + AllocGlobal + Abort),
+    path: &str,
+    asked: u32,
+    answer: Result<u32, FileFault>,
+) {
+    let made = sectors_made(rt, rt.alloc(), path, asked);
+    expect_same(rt, &made, &answer, format_args!("{asked} asked"));
+}
+
+/// Opening one ends so.
+fn expect_opened(rt: &(impl Files + Abort), path: &str, answer: Result<u32, FileFault>) {
+    let opened = sectors_opened(rt, path);
+    expect_same(rt, &opened, &answer, "opening");
 }
 
 /// It is never shortened, what it holds stays, and zeros follow it.
 const EXTENDED: [FileDeed; 8] = [
     FileDeed::WriteSixes(1024),
-    FileDeed::Make(1, 2),
-    FileDeed::Make(0, 2),
-    FileDeed::Make(2, 2),
-    FileDeed::Make(4, 4),
-    FileDeed::Make(3, 4),
-    FileDeed::HoldsExtended,
+    FileDeed::Make(1, Ok(2)),
+    FileDeed::Make(0, Ok(2)),
+    FileDeed::Make(2, Ok(2)),
+    FileDeed::Make(4, Ok(4)),
+    FileDeed::Make(3, Ok(4)),
+    FileDeed::Holds(&[[6; 512], [6; 512], [0; 512], [0; 512]]),
     FileDeed::Remove,
 ];
-
-/// The file holds 1,024 bytes of 6, and then as many zeros.
-fn expect_extended(rt: &(impl Files + AllocGlobal + Abort), path: &str) {
-    expect_bytes(rt, path, [[6; 1024], [0; 1024]].as_flattened());
-}
 
 #[test]
 fn a_file_is_extended(rt: HostRuntime) {
     at_place(&rt, rt.process(), "longer", &EXTENDED);
-}
-
-/// A device that is opened over a file of `count` bytes has `whole` sectors.
-fn expect_whole(rt: &(impl Files + AllocGlobal + Abort), path: &str, count: usize, whole: u32) {
-    write_sixes(rt, path, count);
-    let opened = sectors_opened(rt, path).expect(rt, "it is opened");
-    expect_same(rt, &opened, &whole, format_args!("of {count} bytes"));
 }
 
 /// The first sector of a device holds 6 in each byte but the last, and a zero there.
@@ -184,16 +169,22 @@ fn expect_part_filled(rt: &(impl Files + AllocGlobal + Abort), path: &str) {
 }
 
 /// Files of whole sectors and of parts of one.
-const WHOLE: [FileDeed; 10] = [
-    FileDeed::Whole(0, 0),
-    FileDeed::Whole(1, 0),
-    FileDeed::Whole(511, 0),
-    FileDeed::Whole(512, 1),
-    FileDeed::Whole(1023, 1),
-    FileDeed::Whole(1024, 2),
+const WHOLE: [FileDeed; 16] = [
+    FileDeed::WriteSixes(0),
+    FileDeed::Open(Ok(0)),
+    FileDeed::WriteSixes(1),
+    FileDeed::Open(Ok(0)),
+    FileDeed::WriteSixes(511),
+    FileDeed::Open(Ok(0)),
+    FileDeed::WriteSixes(512),
+    FileDeed::Open(Ok(1)),
+    FileDeed::WriteSixes(1023),
+    FileDeed::Open(Ok(1)),
+    FileDeed::WriteSixes(1024),
+    FileDeed::Open(Ok(2)),
     // A device of no sectors can be made too.
     FileDeed::WriteSixes(511),
-    FileDeed::Make(0, 0),
+    FileDeed::Make(0, Ok(0)),
     FileDeed::PartFilled,
     FileDeed::Remove,
 ];
@@ -203,26 +194,17 @@ fn whole_sectors_count(rt: HostRuntime) {
     at_place(&rt, rt.process(), "parts", &WHOLE);
 }
 
-/// Nothing opens at this path, since the system refuses it.
-fn expect_not_opened(rt: &(impl Files + Abort), path: &str) {
-    let opened = sectors_opened(rt, path);
-    expect_same(rt, &opened, &Err(FileFault::Failed), "opening");
-}
-
-/// Nor is one made there.
-fn expect_not_made(rt: &(impl Files + AllocGlobal + Abort), path: &str) {
-    let made = sectors_made(rt, rt.alloc(), path, 3);
-    expect_same(rt, &made, &Err(FileFault::Failed), "making");
-}
+/// What is reported if the system refuses it.
+const REFUSED: Result<u32, FileFault> = Err(FileFault::Failed);
 
 /// What is tried at a path with nothing.
-const MISSING: [FileDeed; 2] = [FileDeed::NotOpened, FileDeed::Nothing];
+const MISSING: [FileDeed; 2] = [FileDeed::Open(REFUSED), FileDeed::Nothing];
 
 /// What is tried at the path of a folder.
 const FOLDER: [FileDeed; 4] = [
     FileDeed::CreateFolder,
-    FileDeed::NotOpened,
-    FileDeed::NotMade,
+    FileDeed::Open(REFUSED),
+    FileDeed::Make(3, REFUSED),
     FileDeed::RemoveFolder,
 ];
 

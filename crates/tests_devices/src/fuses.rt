@@ -42,19 +42,15 @@ fn is_failed(kind: FuseKind, calls: u64, step: u64) -> bool {
     }
 }
 
-fn first_byte(rt: &impl Abort, device: &mut MemoryDevice<Global>, n: u32) -> u8 {
-    read(rt, device, n)[0]
-}
-
 /// The first bytes of both sectors, of the image that keeps all and of the one that loses all.
 fn images(rt: &impl Abort, device: &MemoryDevice<Global>) -> [u8; 4] {
     let mut kept = stopped(rt, device, &[9, 9]);
     let mut lost = stopped(rt, device, &[]);
     [
-        first_byte(rt, &mut kept, 0),
-        first_byte(rt, &mut kept, 1),
-        first_byte(rt, &mut lost, 0),
-        first_byte(rt, &mut lost, 1),
+        read(rt, &mut kept, 0)[0],
+        read(rt, &mut kept, 1)[0],
+        read(rt, &mut lost, 0)[0],
+        read(rt, &mut lost, 1)[0],
     ]
 }
 
@@ -72,11 +68,6 @@ fn expect_call<D: Device>(rt: &impl Abort, fused: &mut D, kind: FuseKind, calls:
     );
 }
 
-/// A call of the script on a sound device.
-fn expect_done<D: Device>(rt: &impl Abort, sound: &mut D, step: u64) {
-    expect_same(rt, &call(sound, step), &Ok(()), "a call");
-}
-
 /// The script on a fuse, beside the calls that are to be made on a sound device.
 fn run_both<F: Device, D: Device>(
     rt: &impl Abort,
@@ -89,7 +80,7 @@ fn run_both<F: Device, D: Device>(
     for step in 0..CALLS {
         expect_call(rt, fused, kind, calls, step);
         if is_made(kind, calls, step) {
-            expect_done(rt, sound, step);
+            expect_same(rt, &call(sound, step), &Ok(()), "a call");
         }
     }
     expect_sectors(rt, fused, 2);

@@ -7,7 +7,7 @@ use crate::file_calls::{
 };
 use crate::hill_files::{sectors_made, sectors_opened};
 use crate::places::{AtPath, at_place};
-use crate::watched::{Calls, WatchedFiles, forget, new_calls};
+use crate::watched::{Calls, WatchedFiles, forget};
 use hill_file::{Existing, HillFile, OpenFault, Sharing, TryLock};
 use sector_disk::{Device, Fault};
 use std::alloc::Global;
@@ -50,7 +50,7 @@ enum HillCall {
 
 impl AtPath for HillCall {
     fn act<R: Files<File = File> + AllocGlobal + Abort>(&self, rt: &R, path: &str) {
-        let calls = new_calls(NEVER);
+        let calls = Cell::new(Calls::none(NEVER));
         let files = WatchedFiles {
             files: rt,
             calls: &calls,
@@ -94,7 +94,7 @@ where
         }
         HillCall::Write(bytes) => write_file(rt, path, bytes),
         HillCall::Zeros(length) => expect_zeros(rt, path, length),
-        HillCall::Remove => remove(rt, path),
+        HillCall::Remove => remove(rt, path, ""),
     }
 }
 
@@ -161,7 +161,7 @@ where
     for fails_at in 0..MADE.len() {
         stop_making(rt, files, calls, path, fails_at);
         if fails_at > 0 {
-            remove(rt, path);
+            remove(rt, path, "");
         }
     }
 }

@@ -142,11 +142,12 @@ fn files_of_zeros(rt: HostRuntime) {
 }
 
 /// Zeros that were only counted in the file's length are written.
-const HOLE: [Deed<'static>; 6] = [
-    Deed::MakeHole(1 << 20),
-    Deed::BlocksBelow(2048),
+const HOLE: [Deed<'static>; 7] = [
+    Deed::Write(b""),
+    Deed::SetLength(1 << 20),
+    Deed::Blocks(0, 2047),
     Deed::Make(2048, Existing::Kept, Ok(2048)),
-    Deed::BlocksFrom(2048),
+    Deed::Blocks(2048, u64::MAX),
     Deed::Zeros(1 << 20),
     Deed::Remove(""),
 ];
@@ -188,17 +189,6 @@ fn a_file_that_holds_something(rt: HostRuntime) {
     at_place(&rt, rt.process(), "hill-text", &OCCUPIED);
 }
 
-/// None is made at a path, for this reason.
-pub(crate) fn expect_none_made(
-    rt: &(impl Files<File = File> + AllocGlobal + Abort),
-    path: &str,
-    kind: ErrorKind,
-) {
-    let failed = Err(OpenFault::Failed(kind));
-    expect_made(rt, path, 3, Existing::Kept, failed);
-    expect_made(rt, path, 3, Existing::Overwritten, failed);
-}
-
 /// What is reported at a path with nothing.
 const MISSING: Result<u32, OpenFault> = Err(OpenFault::Failed(ErrorKind::NotFound));
 
@@ -212,22 +202,27 @@ pub(crate) fn expect_none_within(rt: &(impl Files<File = File> + AllocGlobal + A
 }
 
 /// Nothing is there, or a folder is.
-const NO_FILE: [Deed<'static>; 8] = [
+const NO_FILE: [Deed<'static>; 9] = [
     Deed::Open(Sharing::Alone, MISSING),
     Deed::Open(Sharing::Shared, MISSING),
     Deed::Nothing,
     Deed::NoneWithin,
     Deed::CreateFolder,
     Deed::Open(Sharing::Alone, FOLDER),
-    Deed::NoneMade(ErrorKind::IsADirectory),
+    Deed::Make(3, Existing::Kept, FOLDER),
+    Deed::Make(3, Existing::Overwritten, FOLDER),
     Deed::RemoveFolder,
 ];
+
+/// What is reported at the path of what no hill can lie in.
+const UNFIT: Result<u32, OpenFault> = Err(OpenFault::Failed(ErrorKind::InvalidInput));
 
 /// Nothing is there, a folder is, or what no hill can lie in.
 #[test]
 fn no_file(rt: HostRuntime) {
     at_place(&rt, rt.process(), "hill-none", &NO_FILE);
-    expect_none_made(&rt, "/dev/zero", ErrorKind::InvalidInput);
+    expect_made(&rt, "/dev/zero", 3, Existing::Kept, UNFIT);
+    expect_made(&rt, "/dev/zero", 3, Existing::Overwritten, UNFIT);
 }
 
 /// What is told of a fault.

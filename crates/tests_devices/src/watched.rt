@@ -1,14 +1,13 @@
-//! A file system that writes down which calls reach a file, in place of the real one, and hands them on to it.
+//! A file system that writes down which calls reach a file, in place of the real one, and hands them on to it. Calls that no
+//! device makes are left out if the trait permits that, and are `Unsupported`.
 
 use hill_file::{OpenFault, TryLock};
 use std::alloc::Allocator;
 use std::cell::Cell;
-use std::fs::{Files, Metadata, OpenFile, OpenOptions, Permissions};
+use std::fs::{Files, Metadata, OpenFile, OpenOptions};
 use std::io;
-use std::io::{ErrorKind, PipeReader, PipeWriter, Read, Seek, SeekFrom, Write};
-use std::os::fd::BorrowedFd;
+use std::io::{ErrorKind, Read, Seek, SeekFrom, Write};
 use std::os::unix::fs::FileExt;
-use std::os::unix::net::SocketAddr;
 use std::path::PathBuf;
 
 /// Calls that are written down at most.
@@ -24,7 +23,8 @@ pub(crate) struct Calls {
 }
 
 impl Calls {
-    fn none(fails_at: usize) -> Calls {
+    /// No call so far. The one of this number from now on fails.
+    pub(crate) fn none(fails_at: usize) -> Calls {
         Calls {
             letters: [b' '; MOST],
             count: 0,
@@ -50,11 +50,6 @@ pub(crate) struct WatchedFile<'c, F> {
 /// Forgets the calls so far. The call of this number from now on fails.
 pub(crate) fn forget(calls: &Cell<Calls>, fails_at: usize) {
     calls.set(Calls::none(fails_at));
-}
-
-/// A place for calls, of which the one of this number fails.
-pub(crate) fn new_calls(fails_at: usize) -> Cell<Calls> {
-    Cell::new(Calls::none(fails_at))
 }
 
 /// Writes a call down, and fails if it is the one that is to fail.
@@ -124,42 +119,6 @@ impl<'c, R: Files> Files for WatchedFiles<'c, R> {
 
     fn canonicalize<B: Allocator>(&self, alloc: B, path: &str) -> io::Result<PathBuf<B>> {
         self.files.canonicalize(alloc, path)
-    }
-
-    fn read_link<B: Allocator>(&self, alloc: B, path: &str) -> io::Result<PathBuf<B>> {
-        self.files.read_link(alloc, path)
-    }
-
-    fn hard_link(&self, original: &str, link: &str) -> io::Result<()> {
-        self.files.hard_link(original, link)
-    }
-
-    fn set_permissions(&self, path: &str, perm: Permissions) -> io::Result<()> {
-        self.files.set_permissions(path, perm)
-    }
-
-    fn symlink(&self, original: &str, link: &str) -> io::Result<()> {
-        self.files.symlink(original, link)
-    }
-
-    fn pipe(&self) -> io::Result<(PipeReader, PipeWriter)> {
-        self.files.pipe()
-    }
-
-    fn chown(&self, path: &str, uid: Option<u32>, gid: Option<u32>) -> io::Result<()> {
-        self.files.chown(path, uid, gid)
-    }
-
-    fn lchown(&self, path: &str, uid: Option<u32>, gid: Option<u32>) -> io::Result<()> {
-        self.files.lchown(path, uid, gid)
-    }
-
-    fn create_dir_with_mode(&self, path: &str, mode: u32) -> io::Result<()> {
-        self.files.create_dir_with_mode(path, mode)
-    }
-
-    fn bind_unix(&self, socket: BorrowedFd<'_>, addr: &SocketAddr) -> io::Result<()> {
-        self.files.bind_unix(socket, addr)
     }
 }
 
