@@ -2,8 +2,9 @@
 use Rattle.std.proofs.Common.{◌≡◌, ℕ, ◌/◌, ◌%◌, ◌<◌, List, get_or, refl, sym, ap, ap₂, ◌∙◌, arith}
 use Rattle.war_types.specs.{declared.instr.Op.Op, declared.instr.Modifier.Modifier, declared.instr.Mode.Mode, declared.instr.Instr.Instr, Bytes.{op_code, modifier_code, mode_code}}
 use Rattle.mars_core.specs.{Cells.cell, Operand.{Reach, Operand, Evaluated, evaluated}, Effect.{Effect, effect}, Whole.{whole, operand}, Round.executed}
-use Rattle.mars_core.specs.{Code.{Operands, evaluated_both, operands, whole_operands}, Words.{kind_code, kinds, handler_of, op_at, modifier_at, mode_at}, Passes.parts_of}
-use Rattle.mars_core.proofs.{Reaches.operands-whole, Places.kind_of_handler, Words.{op_is_read, modifier_is_read, mode_is_read}}
+use Rattle.mars_words.{specs.Words.{kind_code, kinds, handler_of, op_at, modifier_at, mode_at}, proofs.{Words.{op_is_read, modifier_is_read, mode_is_read}, Places.kind_of_handler}}
+use Rattle.mars_core.specs.{Code.{Operands, evaluated_both, operands, whole_operands}, Passes.parts_of}
+use Rattle.mars_core.proofs.Reaches.{operands-whole}
 
 -- an instruction is executed by its operands and its effect
 pub by_operands : (reach : Reach) (size pc : ℕ) (core core1 : List Instr) (i : Instr) (a b : Operand) (after : Effect) → reach.size ≡ size → i ≡ cell core pc → operands reach core pc i ≡ evaluated_both a b core1 →

@@ -6,8 +6,6 @@ pub mod Passes
 pub mod Windows
 pub mod Marks
 pub mod Loads
-pub mod Places
-pub mod Words
 pub mod Reaches
 pub mod Executions
 pub mod Touched

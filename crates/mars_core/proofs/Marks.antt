@@ -3,7 +3,7 @@ use Rattle.std.proofs.Common.{◌≡◌, ◌≢◌, ℕ, ◌+◌, ◌<◌, ◌�
 use Rattle.std.proofs.{Common.{length-set, get_or-set_same, get_or-set_other}, lemmas.Bool.{cases_eq, both_ways, false_from_ne_true, cond-true, cond-false}}
 use Rattle.std.proofs.{lemmas.List.{map-set, length-map, length-replicate, get_or-map, get_or_read}, lemmas.List.Elements.{All-head, All-tail, All-from_get_or, All-get_or, All-set, All-replicate}}
 use Rattle.{std.proofs.lemmas.List.Sums.{sum_by-cons, sum_by-set, count_by-le-length}, war_types.specs.{declared.instr.Instr.Instr, Warrior.HasNumbersBelow}}
-use Rattle.mars_core.specs.{Cells.{IsCore, blank, cell}, Words.{Word, word_in, IsWord, core_in, is_marked, IsListed, AreCells}}
+use Rattle.{mars_words.specs.Words.{Word, word_in, IsWord}, mars_core.specs.{Cells.{IsCore, blank, cell}, Marks.{core_in, is_marked, IsListed, AreCells}}}
 
 -- how many pass a test, after a write of one that passes
 count_by-set : (p : ℕ → Bool) (xs : List ℕ) (i y : ℕ) → i < length xs → p y ≡ true →

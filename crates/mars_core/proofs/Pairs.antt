@@ -1,5 +1,5 @@
 -- What a test answers of all pairs that a modifier names, by what it answers of each.
-use Rattle.{std.proofs.{Common.{◌≡◌, ℕ, ◌==◌, Bool, true, false, ◌&&◌, List, [], ◌∷◌, sym, ap, ◌∙◌, eq-eqb, ne_eqb}, Math.Bool.and-true}, std.specs.List.list_all, mars_core.specs.Pairs.Pair}
+use Rattle.{std.proofs.{Common.{◌≡◌, ℕ, ◌==◌, Bool, true, false, ◌&&◌, List, [], ◌∷◌, sym, ap, ◌∙◌, eq-eqb, ne_eqb}, Math.Bool.and-true}, std.specs.List.list_all, mars_words.specs.Pairs.Pair}
 
 pub all-one : (f : Pair → Bool) (p : Pair) (ps : List Pair) → p ∷ [] ≡ ps → f p ≡ list_all f ps
 all-one f p ps names = sym (and-true (f p)) ∙ ap (list_all f) names

@@ -1,7 +1,8 @@
 -- Under limits of the core size an operand is the one without limits, for `laws_of_limits` and for machines without limits.
 use Rattle.std.proofs.Common.{◌≡◌, ℕ, ◌+◌, ◌-◌, ◌*◌, ◌/◌, ◌%◌, ◌<◌, Bool, true, false, nat_lt, if◌then◌else◌, List, [], ◌∷◌, ◌++◌, take, All, refl, ap, sym, ◌∙◌, arith, mod-eq_of_lt}
-use Rattle.{std.proofs.lemmas.Nat.{div-add-mod', mod-mul-add, mod_below}, war_types.specs.{declared.instr.Instr.Instr, declared.instr.Mode.Mode}, mars_core.specs.Cells.{Field, cell, number, plus}}
-use Rattle.mars_core.specs.{Operand.{Operand, Evaluated, folded, pointers, evaluated, raised_at, lowered_at}, Whole.{whole, found, indirect, predecremented, postincremented, by_mode, operand}}
+use Rattle.{std.proofs.lemmas.Nat.{div-add-mod', mod-mul-add, mod_below}, war_types.specs.{declared.instr.Instr.Instr, declared.instr.Mode.Mode}}
+use Rattle.{mars_words.specs.Numbers.{plus, folded, Field, number}, mars_core.specs.Cells.cell}
+use Rattle.mars_core.specs.{Operand.{Operand, Evaluated, pointers, evaluated, raised_at, lowered_at}, Whole.{whole, found, indirect, predecremented, postincremented, by_mode, operand}}
 use Rattle.mars_core.specs.{Effect.{Effect, effect}, Round.{executed, side_turn, side_turned, turned_by}, Code.{Operands, operands, whole_operands, evaluated_both}}
 use Rattle.mars_core.specs.Operand as limited
 use Rattle.mars_core.specs.Whole as without_limits

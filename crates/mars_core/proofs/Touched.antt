@@ -1,7 +1,8 @@
 -- Of the cells that a turn may change, for `touchable`.
 use Rattle.std.proofs.Common.{◌≡◌, ◌≢◌, ℕ, zero, suc, ◌+◌, ◌<◌, List, [], ◌∷◌, All, Some, slice_set, refl, sym, ap, false, subst, ◌∙◌, arith, get_or-set_other}
 use Rattle.{war_types.specs.{declared.instr.Op.Op, declared.instr.Modifier.Modifier, declared.instr.Mode.Mode, declared.instr.Instr.Instr}, mars_core.specs.declared.round.Side.Side}
-use Rattle.mars_core.specs.{Cells.{Field, blank, cell, number, plus, minus, raised, lowered}, Operand.{Reach, Pointers, Operand, folded, pointed, by_mode, operand, raised_at, lowered_at}}
+use Rattle.mars_words.specs.Numbers.{plus, minus, folded, Field, number}
+use Rattle.mars_core.specs.{Cells.{blank, cell, raised, lowered}, Operand.{Reach, Pointers, Operand, pointed, by_mode, operand, raised_at, lowered_at}}
 use Rattle.mars_core.specs.{Effect.{by_op, effect}, Queue.front, Round.{Round, executed, is_over, queue_of, reach_of, turn_of, side_turn, after_side, after_turn}, Touched.AreSameBut, Code.led_by}
 
 -- ---- what stays

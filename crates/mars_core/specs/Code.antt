@@ -1,34 +1,11 @@
 -- Of the code alone: what its own values are in the words of the definitions. No definition names a word of this file.
 use Rattle.std.specs.Prelude.{ℕ, ◌≤◌, List, [], ◌∷◌}
-use Rattle.{war_types.specs.{declared.instr.Mode.Mode, declared.instr.Instr.Instr}, mars_core.specs.{declared.field.Paired.Paired, declared.effect.Queued.Queued, declared.round.Side.Side}}
-use Rattle.mars_core.specs.{Cells.Field, Pairs.Pair, Operand.{Reach, Pointers, Operand, operand}, Effect.Arithmetic}
-use Rattle.mars_core.specs.declared.field.Field as code_field
-use Rattle.mars_core.specs.declared.field.Field.TheVariants as fields
-use Rattle.mars_core.specs.declared.field.Pair as code_pair
-use Rattle.mars_core.specs.declared.arithmetic.Arithmetic as code_arithmetic
-use Rattle.mars_core.specs.declared.arithmetic.Arithmetic.TheVariants as arithmetics
+use Rattle.{war_types.specs.{declared.instr.Mode.Mode, declared.instr.Instr.Instr}, mars_words.specs.Numbers.Field}
+use Rattle.mars_core.specs.{declared.effect.Queued.Queued, declared.round.Side.Side}
+use Rattle.mars_core.specs.Operand.{Reach, Pointers, Operand, operand}
 use Rattle.mars_core.specs.declared.operand.Operand as code_operand
 use Rattle.mars_core.specs.declared.limits.Pointers as code_pointers
 use Rattle.mars_core.specs.Whole as whole
-
-abbrev pub field_of : code_field.Field → Field
-field_of fields.A = Field.A
-field_of fields.B = Field.B
-
-abbrev pub pair_of : code_pair.Pair → Pair
-pair_of p = record { source = field_of p.source; target = field_of p.target }
-
--- the pairs that it names one by one
-abbrev pub listed : Paired → List Pair
-listed (Paired.One p) = pair_of p ∷ []
-listed (Paired.Two p q) = pair_of p ∷ pair_of q ∷ []
-
-abbrev pub arithmetic_of : code_arithmetic.Arithmetic → Arithmetic
-arithmetic_of arithmetics.Sum = Arithmetic.Sum
-arithmetic_of arithmetics.Difference = Arithmetic.Difference
-arithmetic_of arithmetics.Product = Arithmetic.Product
-arithmetic_of arithmetics.Quotient = Arithmetic.Quotient
-arithmetic_of arithmetics.Remainder = Arithmetic.Remainder
 
 abbrev pub operand_of : code_operand.Operand → Operand
 operand_of o = record { pointer = o.pointer; target = o.target; register = o.register.instr }

@@ -1,7 +1,9 @@
 -- What each operation does (the 1994 draft standard, "Instructions"; SEQ, SNE and NOP as in pMARS).
-use Rattle.std.specs.{Prelude.{ℕ, ◌*◌, ◌/◌, ◌%◌, Bool, ◌&&◌, ◌==◌, not, nat_lt, if◌then◌else◌, List, [], ◌∷◌, Option, Some, None, slice_set}, Option.is_some, List.list_all}
-use Rattle.war_types.specs.{declared.instr.Op.Op, declared.instr.Modifier.Modifier, declared.instr.Instr.Instr, Bytes.{op_code, modifier_code, mode_code}}
-use Rattle.mars_core.specs.{Cells.{Field, cell, number, with_number, lowered, plus, minus}, Pairs.{Pair, pairs}, Operand.Operand}
+use Rattle.std.specs.{Prelude.{ℕ, Bool, ◌==◌, not, nat_lt, if◌then◌else◌, List, [], ◌∷◌, Option, Some, None, slice_set}, Option.is_some, List.list_all}
+use Rattle.war_types.specs.{declared.instr.Op.Op, declared.instr.Modifier.Modifier, declared.instr.Instr.Instr}
+use Rattle.mars_words.specs.{Numbers.{plus, minus, Field, number, with_number, Arithmetic, combined}, Pairs.{Pair, pairs}}
+use Rattle.mars_core.specs.{Cells.{cell, lowered}, Operand.Operand}
+pub use Rattle.mars_words.specs.Equal.{numbers_equal, kinds_equal, are_equal}
 
 -- MOV: each target field is the A register's field of its pair
 abbrev pub moved : List Pair → Instr → Instr → Instr
@@ -12,22 +14,6 @@ moved (p ∷ ps) a target = moved ps a (with_number p.target (number p.source a)
 abbrev pub copied : Modifier → Instr → Instr → Instr
 copied Modifier.I a target = a
 copied modifier a target = moved (pairs modifier) a target
-
--- what an operation makes of two numbers
-pub data Arithmetic : Type 0 where
-  Sum : Arithmetic
-  Difference : Arithmetic
-  Product : Arithmetic
-  Quotient : Arithmetic
-  Remainder : Arithmetic
-
--- y, of the B operand, with x, of the A operand; nothing for a division by 0
-abbrev pub combined : ℕ → Arithmetic → ℕ → ℕ → Option ℕ
-combined size Arithmetic.Sum y x = Some (plus size y x)
-combined size Arithmetic.Difference y x = Some (minus size y x)
-combined size Arithmetic.Product y x = Some ((y * x) % size)
-combined size Arithmetic.Quotient y x = if x == 0 then None else Some (y / x)
-combined size Arithmetic.Remainder y x = if x == 0 then None else Some (y % x)
 
 -- the value of a pair, by the registers
 abbrev pub value : ℕ → Arithmetic → Instr → Instr → Pair → Option ℕ
@@ -57,22 +43,6 @@ are_zero modifier b = list_all (λ p. number p.target b == 0) (pairs modifier)
 -- every B field of the pairs is 0 once it is lowered by 1
 abbrev pub fall_to_zero : ℕ → Modifier → Instr → Bool
 fall_to_zero size modifier b = list_all (λ p. minus size (number p.target b) 1 == 0) (pairs modifier)
-
-abbrev pub numbers_equal : Modifier → Instr → Instr → Bool
-numbers_equal modifier a b = list_all (λ p. number p.source a == number p.target b) (pairs modifier)
-
--- the same operation, modifier and modes
-abbrev pub kinds_equal : Instr → Instr → Bool
-kinds_equal a b =
-    op_code a.op == op_code b.op
-    && modifier_code a.modifier == modifier_code b.modifier
-    && mode_code a.a_mode == mode_code b.a_mode
-    && mode_code a.b_mode == mode_code b.b_mode
-
--- SEQ: all pairs are equal; under .I all else too
-abbrev pub are_equal : Modifier → Instr → Instr → Bool
-are_equal Modifier.I a b = kinds_equal a b && numbers_equal Modifier.I a b
-are_equal modifier a b = numbers_equal modifier a b
 
 -- SLT: in every pair the A field is below the B field
 abbrev pub are_less : Modifier → Instr → Instr → Bool

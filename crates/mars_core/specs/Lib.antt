@@ -1,6 +1,9 @@
--- Cells and their numbers, the pairs of a modifier, the evaluation of an operand, what each operation does.
+-- The numbers of an instruction, the pairs of a modifier, and when instructions are equal.
+pub use Rattle.mars_words.specs.Numbers
+pub use Rattle.mars_words.specs.Pairs
+pub use Rattle.mars_words.specs.Equal
+-- Cells, the evaluation of an operand, what each operation does.
 pub mod Cells
-pub mod Pairs
 pub mod Operand
 pub mod Effect
 -- Turns and rounds, and the round in an arena.
@@ -12,8 +15,10 @@ pub mod Touched
 pub mod Whole
 pub mod Passes
 pub mod Laws
--- Of the code alone, for private contracts: what its values mean, the words of its cells, the queues that it keeps, and windows before them.
+-- Of the code alone, for private contracts: what its values mean, words, the cells that were written, the queues that
+-- it keeps, and windows before them.
 pub mod Code
-pub mod Words
+pub use Rattle.mars_words.specs.Words
+pub mod Marks
 pub mod Queue
 pub mod Window

@@ -1,19 +1,14 @@
 -- The evaluation of an operand (the 1994 draft standard, "Instruction Execution"; the time of the B operand's copy is
 -- this project's own, for an immediate one too).
-use Rattle.std.specs.Prelude.{ℕ, ◌+◌, ◌-◌, ◌/◌, ◌%◌, nat_lt, if◌then◌else◌, List, slice_set}
-use Rattle.{war_types.specs.{declared.instr.Mode.Mode, declared.instr.Instr.Instr}, mars_core.specs.Cells.{Field, cell, number, plus, raised, lowered}}
+use Rattle.std.specs.Prelude.{ℕ, ◌+◌, List, slice_set}
+use Rattle.war_types.specs.{declared.instr.Mode.Mode, declared.instr.Instr.Instr}
+use Rattle.{mars_words.specs.Numbers.{plus, folded, Field, number}, mars_core.specs.Cells.{cell, raised, lowered}}
 
 -- how many cells a core has, and within how many around its instruction an operand reads, and writes
 pub record Reach : Type 0 where
   pub size : ℕ
   pub read : ℕ
   pub write : ℕ
-
--- the draft's "Fold": a pointer within a limit leads at most half of it forwards, and the rest backwards
-abbrev pub folded : ℕ → ℕ → ℕ → ℕ
-folded size limit pointer =
-    let rest = pointer % limit in
-    if nat_lt (limit / 2) rest then rest + (size - limit) else rest
 
 -- where an operand reads and where it writes, counted from its instruction
 pub record Pointers : Type 0 where

@@ -1,7 +1,8 @@
 -- Of the machine without limits: an operand reads and writes anywhere in the core, so one address stands for both pointers. The laws of limits say
 -- that this is the definition if both limits are the core size.
 use Rattle.std.specs.Prelude.{ℕ, List, [], ◌∷◌, ◌++◌, take}
-use Rattle.{war_types.specs.{declared.instr.Mode.Mode, declared.instr.Instr.Instr}, mars_core.specs.Cells.{Field, cell, number, plus}}
+use Rattle.war_types.specs.{declared.instr.Mode.Mode, declared.instr.Instr.Instr}
+use Rattle.{mars_words.specs.Numbers.{plus, Field, number}, mars_core.specs.Cells.cell}
 use Rattle.mars_core.specs.{Operand.{Reach, Operand, Evaluated, evaluated, raised_at, lowered_at}, Effect.{Effect, effect}, Round.{SideTurn, side_turned, turned_by}, declared.round.Turned.Turned}
 use Rattle.mars_core.specs.Operand as limited
 

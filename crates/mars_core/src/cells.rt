@@ -1,11 +1,9 @@
 //! The core: its cells, and the addresses of those that were written.
 
 ghost use Rattle.std.specs.Prelude.{◌≡◌, ◌+◌, ◌<◌, ◌≤◌, List, length, replicate, slice_set, IfOk};
-ghost use Rattle.{war_types.specs.Warrior.HasNumbersBelow, mars_core.specs.{Cells.{IsCore, blank, cell, with_number}, Code.field_of}};
+ghost use Rattle.{war_types.specs.Warrior.HasNumbersBelow, mars_words.specs.{Numbers.with_number, Code.field_of}, mars_core.specs.Cells.{IsCore, blank, cell}};
 
-use crate::field::Field;
-use crate::size::Size;
-use crate::word::Word;
+use mars_words::{Field, Size, Word};
 use std::alloc::{AllocError, Allocator};
 use std::marker::Model;
 use war_types::{Instr, Mode, Modifier, Op};
@@ -30,7 +28,7 @@ pub(crate) struct Core<A: Allocator> {
 }
 
 impl<A: Allocator> Model for Core<A> {
-    ghost use Rattle.{std.specs.Prelude.{List, length}, war_types.specs.declared.instr.Instr.Instr, mars_core.specs.Words.{core_in, AreCells}};
+    ghost use Rattle.{std.specs.Prelude.{List, length}, war_types.specs.declared.instr.Instr.Instr, mars_core.specs.Marks.{core_in, AreCells}};
 
     ghost Value = { List Instr };
 

@@ -1,12 +1,10 @@
 //! What a MOV writes, by the pairs of its modifier.
 
 ghost use Rattle.std.specs.Prelude.{◌≡◌, ◌<◌, slice_set};
-ghost use Rattle.{war_types.specs.Warrior.HasNumbersBelow, mars_core.specs.{Cells.{IsCore, cell}, Pairs.pairs, Effect.{copied, moved}}};
+ghost use Rattle.{war_types.specs.Warrior.HasNumbersBelow, mars_words.specs.Pairs.pairs, mars_core.specs.{Cells.{IsCore, cell}, Effect.{copied, moved}}};
 
 use crate::cells::Core;
-use crate::field::{Paired, pairs};
-use crate::size::Size;
-use crate::word::Word;
+use mars_words::{Paired, Size, Word, pairs};
 use std::alloc::Allocator;
 use war_types::Modifier;
 

@@ -1,18 +1,15 @@
 //! What each operation does.
 
 ghost use Rattle.std.specs.Prelude.{◌≡◌, ◌<◌, ◌≤◌, All};
-ghost use Rattle.war_types.specs.Warrior.{HasNumbersBelow};
-ghost use Rattle.mars_core.specs.{Cells.IsCore, Round.executed, Effect.{queues, effect, skip_where, jump_where, calculates, put, target}, Code.{addresses, arithmetic_of, operand_of}};
+ghost use Rattle.{war_types.specs.Warrior.HasNumbersBelow, mars_words.specs.Code.arithmetic_of};
+ghost use Rattle.mars_core.specs.{Cells.IsCore, Round.executed, Effect.{queues, effect, skip_where, jump_where, calculates, put, target}, Code.{addresses, operand_of}};
 
-use crate::arithmetic::Arithmetic;
 use crate::cells::Core;
 use crate::copying::copy_to;
-use crate::field::Field;
 use crate::limits::Limits;
 use crate::operand::Operand;
 use crate::registers::{all_lowered, are_equal, are_less, are_zero, calculated, fall_to_zero};
-use crate::size::Size;
-use crate::word::Word;
+use mars_words::{Arithmetic, Field, Size, Word};
 use std::alloc::Allocator;
 use war_types::{Modifier, Op};
 

@@ -2,15 +2,13 @@
 
 ghost use Rattle.std.specs.Prelude.{◌≡◌, ◌/◌, ◌%◌, ◌<◌, ◌≤◌, All, slice_index_or};
 ghost use Rattle.{war_types.specs.Warrior.HasNumbersBelow, mars_core.specs.{Cells.IsCore, Operand.evaluated, Effect.{effect, queues}, Whole.operand}};
-ghost use Rattle.mars_core.specs.{Code.{addresses, operand_of}, Words.{kinds, handler_of, op_at, modifier_at, mode_at}, Passes.{IsAt, IsExecuted, parts_of}};
+ghost use Rattle.{mars_words.specs.Words.{kinds, handler_of, op_at, modifier_at, mode_at}, mars_core.specs.{Code.{addresses, operand_of}, Passes.{IsAt, IsExecuted, parts_of}}};
 
 use crate::cells::Core;
 use crate::effect::{Queued, effect, execute};
-use crate::field::Field;
 use crate::limits::Whole;
 use crate::operand::{Operand, evaluate};
-use crate::size::Size;
-use crate::word::{Word, mode_at, modifier_at, op_at};
+use mars_words::{Field, Size, Word, mode_at, modifier_at, op_at};
 use std::alloc::Allocator;
 
 /// Executes the instruction at `pc` without limits, in a core of `size` cells, by the handler of its kind. SIDE is for
@@ -33,7 +31,7 @@ pub(crate) fn dispatched<const SIDE: u64, A: Allocator>(
 
 /// Executes the instruction that was read, by one jump to its handler.
 #[inline(always)]
-#[tactic(auto, unfolding(crate::specs::Words::kinds))]
+#[tactic(auto, unfolding(mars_words::specs::Words::kinds))]
 fn handled<const SIDE: u64, A: Allocator>(
     core: &mut Core<A>,
     size: Size,

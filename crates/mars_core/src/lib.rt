@@ -1,12 +1,12 @@
 //! The machine of Core War: a core, the processes of two warriors, turns and rounds.
 //!
 //! A round passes through the modules in this order. `arena` owns the core and both queues. It loads two warriors (`load`) into the
-//! `cells`, each a `word` of 64 bits, and makes turns: without limits by the loop in `pass`, which finds the code of an instruction's kind
-//! (`kinds`) in `handlers`, else, and single ones, by the loop in `turn`. A turn takes a process from its `queue`, in `pass` from a
-//! `window` before it; `effect` executes its instruction. Operands are evaluated first: without limits by `operand`, else by `limits`. MOV
-//! is in `copying`, and what other operations read and make of numbers in `registers`, by the pairs of `field`; `size` has sums and
-//! differences in a core, and `arithmetic` and `round` the types. `touchable` lists the cells that a turn may change. `laws` is a law of
-//! the definitions.
+//! `cells`, each a word of 64 bits, and makes turns: without limits by the loop in `pass`, which finds the code of an instruction's kind
+//! in `handlers`, else, and single ones, by the loop in `turn`. A turn takes a process from its `queue`, in `pass` from a `window` before
+//! it; `effect` executes its instruction. Operands are evaluated first: without limits by `operand`, else by `limits`. MOV is in
+//! `copying`, and what other operations read and make of numbers in `registers`; `round` has the types. `touchable` lists the cells that
+//! a turn may change. `laws` is a law of the definitions. Words, the pairs of a modifier, and sums and differences in a core are in the
+//! crate `mars_words`.
 //!
 //! The main clauses: `begin` makes the round `opening`, `turn` the round `after_turn`, and `play` plays on until the round is over, at most
 //! twice the cycles. Each says that the arena is a round again (`IsRound`): its core has the core's size, all numbers are below it, and
@@ -17,13 +17,10 @@
 #![tactic(auto)]
 
 mod arena;
-mod arithmetic;
 mod cells;
 mod copying;
 mod effect;
-mod field;
 mod handlers;
-mod kinds;
 mod laws;
 mod limits;
 mod load;
@@ -32,11 +29,9 @@ mod pass;
 mod queue;
 mod registers;
 mod round;
-mod size;
 mod touchable;
 mod turn;
 mod window;
-mod word;
 
 pub use arena::Arena;
 pub use laws::laws_of_limits;

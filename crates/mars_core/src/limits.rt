@@ -2,13 +2,11 @@
 
 ghost use Rattle.std.specs.Prelude.{◌≡◌, ℕ, ◌+◌, ◌<◌, ◌≤◌};
 ghost use Rattle.{war_types.specs.Warrior.HasNumbersBelow, mars_core.specs.{Cells.IsCore, Operand.{Reach, pointed, led_on, found_from, evaluated, operand, indirect, predecremented, postincremented}}};
-ghost use Rattle.mars_core.specs.{Whole.whole, Code.{evaluated_both, field_of, operand_of, operands, pointers_of, IsReach}};
+ghost use Rattle.{mars_words.specs.Code.field_of, mars_core.specs.{Whole.whole, Code.{evaluated_both, operand_of, operands, pointers_of, IsReach}}};
 
 use crate::cells::Core;
-use crate::field::Field;
 use crate::operand::{Operand, whole_operands};
-use crate::size::Size;
-use crate::word::Word;
+use mars_words::{Field, Size, Word};
 use std::alloc::Allocator;
 use std::marker::Model;
 use war_types::Mode;

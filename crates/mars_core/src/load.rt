@@ -4,8 +4,7 @@ ghost use Rattle.std.specs.Prelude.{◌≡◌, ◌+◌, ◌≤◌, ◌++◌, All
 ghost use Rattle.{war_types.specs.Warrior.HasNumbersBelow, mars_core.specs.{Cells.IsCore, Round.loaded}};
 
 use crate::cells::Core;
-use crate::size::Size;
-use crate::word::Word;
+use mars_words::{Size, Word};
 use std::alloc::Allocator;
 use war_types::Instr;
 

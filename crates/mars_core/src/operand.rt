@@ -2,12 +2,10 @@
 
 ghost use Rattle.std.specs.Prelude.{◌≡◌, ◌<◌, true};
 ghost use Rattle.{war_types.specs.Warrior.HasNumbersBelow, mars_core.specs.{Cells.IsCore, Operand.evaluated, Whole.{found, through, indirect, predecremented, postincremented, operand}}};
-ghost use Rattle.mars_core.specs.{Code.{field_of, operand_of, evaluated_both, whole_operands}, Words.is_plain};
+ghost use Rattle.{mars_words.specs.{Code.field_of, Words.is_plain}, mars_core.specs.Code.{operand_of, evaluated_both, whole_operands}};
 
 use crate::cells::Core;
-use crate::field::Field;
-use crate::size::Size;
-use crate::word::Word;
+use mars_words::{Field, Size, Word};
 use std::alloc::Allocator;
 use war_types::Mode;
 

@@ -9,8 +9,8 @@ use crate::effect::Queued;
 use crate::handlers::dispatched;
 use crate::queue::Queue;
 use crate::round::Side;
-use crate::size::Size;
 use crate::window::{PLACES, Window};
+use mars_words::Size;
 use std::alloc::Allocator;
 
 /// Makes `most` passes, or fewer if a side has no process left, and answers how many turns were not made, and whose

@@ -1,14 +1,10 @@
 //! What an operation reads and makes of its registers, by the pairs of its modifier.
 
 ghost use Rattle.std.specs.Prelude.{◌≡◌, ◌<◌, ◌≤◌, ◌==◌, nat_lt, IfSome};
-ghost use Rattle.{war_types.specs.Warrior.HasNumbersBelow, mars_core.specs.{Cells.{number, lowered, minus}, Pairs.pairs}};
+ghost use Rattle.{war_types.specs.Warrior.HasNumbersBelow, mars_words.specs.{Numbers.{minus, number}, Pairs.pairs, Code.{arithmetic_of, field_of, pair_of}}, mars_core.specs.Cells.lowered};
 ghost use Rattle.mars_core.specs.Effect.{value, with_value, calculated, have_values, all_lowered, are_zero, fall_to_zero, are_equal, numbers_equal, are_less};
-ghost use Rattle.mars_core.specs.Code.{arithmetic_of, field_of, pair_of};
 
-use crate::arithmetic::Arithmetic;
-use crate::field::{Field, Pair, Paired, pairs};
-use crate::size::Size;
-use crate::word::Word;
+use mars_words::{Arithmetic, Field, Pair, Paired, Size, Word, pairs};
 use war_types::Modifier;
 
 /// The target of an operation on numbers, and whether every pair had a value.

@@ -1,11 +1,10 @@
 //! The cells that a process may write.
 
 ghost use Rattle.std.specs.Prelude.{◌≡◌, ◌<◌, ◌≤◌, All};
-ghost use Rattle.mars_core.specs.{Cells.{plus, IsCore}, Operand.{Reach, folded}, Round.executed, Touched.AreSameBut, Code.{field_of, led_by}};
+ghost use Rattle.{mars_words.specs.{Numbers.{plus, folded}, Code.field_of}, mars_core.specs.{Cells.IsCore, Operand.Reach, Round.executed, Touched.AreSameBut, Code.led_by}};
 
 use crate::cells::Core;
-use crate::field::Field;
-use crate::size::Size;
+use mars_words::{Field, Size};
 use std::alloc::Allocator;
 use war_types::Mode;
 

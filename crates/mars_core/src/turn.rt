@@ -8,7 +8,7 @@ use crate::effect::{Queued, execute};
 use crate::limits::Limits;
 use crate::queue::Queue;
 use crate::round::{Side, Turned};
-use crate::size::Size;
+use mars_words::Size;
 use std::alloc::Allocator;
 
 /// What a run of turns led to.

@@ -1,5 +1,5 @@
 use Rattle.{std.proofs.Common.{◌≡◌, ℕ, List, slice_set, ap, ap₂, ◌∙◌}, war_types.specs.declared.instr.Instr.Instr}
-use Rattle.mars_core.specs.{Cells.{cell, number, with_number}, Pairs.Pair, Effect.moved, Code.field_of}
+use Rattle.{mars_words.specs.{Numbers.{number, with_number}, Pairs.Pair, Code.field_of}, mars_core.specs.{Cells.cell, Effect.moved}}
 use Rattle.mars_core.proofs.copying.move_to.Goals as goal
 
 -- each number that is put is one of the A register's

@@ -1,4 +1,5 @@
-use Rattle.{std.proofs.Common.{refl, sym, ap, ◌∙◌}, mars_core.specs.{Whole.operand, Code.operand_of, Words.mode_at}, mars_core.proofs.Executions.{kind-read, by_kind, parts_of_handler}}
+use Rattle.std.proofs.Common.{refl, sym, ap, ◌∙◌}
+use Rattle.{mars_words.specs.Words.mode_at, mars_core.specs.{Whole.operand, Code.operand_of}, mars_core.proofs.Executions.{kind-read, by_kind, parts_of_handler}}
 use Rattle.mars_core.proofs.handlers.arm.Goals as goal
 
 pub returns : goal.returns

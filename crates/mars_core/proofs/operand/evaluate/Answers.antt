@@ -1,5 +1,5 @@
 use Rattle.{std.proofs.Common.{◌≡◌, ◌∙◌, ℕ, List, sym, ap, arith}, war_types.specs.{declared.instr.Instr.Instr, declared.instr.Mode.Mode}}
-use Rattle.mars_core.specs.{Cells.{Field, plus}, Operand.{Operand, Evaluated, evaluated}, Whole.{found, indirect, predecremented, postincremented, by_mode, operand}}
+use Rattle.{mars_words.specs.Numbers.{plus, Field}, mars_core.specs.{Operand.{Operand, Evaluated, evaluated}, Whole.{found, indirect, predecremented, postincremented, by_mode, operand}}}
 use Rattle.mars_core.proofs.operand.evaluate.Goals as goal
 
 -- the operand, by the arm that its mode takes

@@ -1,5 +1,5 @@
 use Rattle.{std.proofs.Common.{◌≡◌, ℕ, ◌+◌, ◌%◌, ◌<◌, true, List, ap, refl, sym, ◌∙◌, arith, mod-eq_of_lt}, war_types.specs.{declared.instr.Instr.Instr, declared.instr.Mode.Mode}}
-use Rattle.mars_core.specs.{Cells.plus, Operand.{Operand, evaluated}, Whole.{found, operand}, Words.is_plain}
+use Rattle.{mars_words.specs.{Numbers.plus, Words.is_plain}, mars_core.specs.{Operand.{Operand, evaluated}, Whole.{found, operand}}}
 use Rattle.mars_core.proofs.operand.plain.Goals.{in-Immediate, in_default}
 use Rattle.mars_core.proofs.operand.plain.Goals as goal
 

@@ -1,5 +1,5 @@
 use Rattle.{std.proofs.Common.{◌≡◌, ℕ, slice_set, sym, ap, ap₂, ◌∙◌}, war_types.specs.declared.instr.Instr.Instr}
-use Rattle.mars_core.specs.{Cells.{cell, number, with_number, plus}, Operand.{evaluated, raised_at}, Code.field_of}
+use Rattle.{mars_words.specs.{Numbers.{plus, number, with_number}, Code.field_of}, mars_core.specs.{Cells.cell, Operand.{evaluated, raised_at}}}
 use Rattle.mars_core.proofs.operand.postincremented.Goals as goal
 
 pub returns-clause-value : goal.returns-clause-value

@@ -1,5 +1,5 @@
 use Rattle.{std.proofs.Common.{◌≡◌, ℕ, List, slice_set, sym, ap, ap₂, ◌∙◌}, war_types.specs.declared.instr.Instr.Instr}
-use Rattle.mars_core.specs.{Cells.{cell, number, with_number, minus}, Operand.{evaluated, lowered_at}, Whole.indirect, Code.field_of}
+use Rattle.{mars_words.specs.{Numbers.{minus, number, with_number}, Code.field_of}, mars_core.specs.{Cells.cell, Operand.{evaluated, lowered_at}, Whole.indirect}}
 use Rattle.mars_core.proofs.operand.predecremented.Goals as goal
 
 pub returns-clause-value : goal.returns-clause-value

@@ -1,5 +1,5 @@
 use Rattle.{std.proofs.Common.{◌≡◌, ap, ap₂, ◌∙◌, sym, Bool, true, false, ◌&&◌, refl}}
-use Rattle.mars_core.specs.{Whole.operand, Code.{operand_of}, Words.is_plain}
+use Rattle.{mars_words.specs.Words.is_plain, mars_core.specs.{Whole.operand, Code.{operand_of}}}
 use Rattle.mars_core.proofs.Executions.{both}
 use Rattle.mars_core.proofs.operand.whole_operands.Goals as goal
 

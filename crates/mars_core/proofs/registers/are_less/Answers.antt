@@ -1,4 +1,4 @@
-use Rattle.{std.proofs.Common.{◌∙◌, sym, nat_lt}, mars_core.specs.{Cells.number, Pairs.Pair, Code.pair_of}, mars_core.proofs.Pairs.{all-one, all-then, all-else}}
+use Rattle.{std.proofs.Common.{◌∙◌, sym, nat_lt}, mars_words.specs.{Numbers.number, Pairs.Pair, Code.pair_of}, mars_core.proofs.Pairs.{all-one, all-then, all-else}}
 use Rattle.mars_core.proofs.registers.are_less.Goals as goal
 
 pub returns-in-One : goal.returns-in-One

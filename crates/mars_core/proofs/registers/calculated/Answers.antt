@@ -1,5 +1,5 @@
 use Rattle.{std.proofs.Common.{◌≡◌, ℕ, Bool, List, Option, sym, ap, ap₂, ◌∙◌}, std.specs.Option.is_some, war_types.specs.declared.instr.Instr.Instr}
-use Rattle.{mars_core.specs.{Pairs.Pair, Effect.{value, with_value, calculated}, Code.{arithmetic_of, field_of, pair_of}}, mars_core.proofs.Pairs.{all-one, all-then, all-else}}
+use Rattle.{mars_words.specs.{Pairs.Pair, Code.{arithmetic_of, field_of, pair_of}}, mars_core.specs.Effect.{value, with_value, calculated}, mars_core.proofs.Pairs.{all-one, all-then, all-else}}
 use Rattle.mars_core.proofs.registers.calculated.Goals.{then-is_some, else-is_some}
 use Rattle.mars_core.proofs.registers.calculated.Goals as goal
 

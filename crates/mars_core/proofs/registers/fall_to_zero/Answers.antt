@@ -1,4 +1,4 @@
-use Rattle.{std.proofs.Common.{◌∙◌, ℕ, ◌==◌, sym, ap, ne_eqb}, mars_core.specs.{Cells.{number, minus}, Pairs.Pair, Code.pair_of}, mars_core.proofs.Pairs.{all-one, equal-then, equal-else}}
+use Rattle.{std.proofs.Common.{◌∙◌, ℕ, ◌==◌, sym, ap, ne_eqb}, mars_words.specs.{Numbers.{minus, number}, Pairs.Pair, Code.pair_of}, mars_core.proofs.Pairs.{all-one, equal-then, equal-else}}
 use Rattle.mars_core.proofs.registers.fall_to_zero.Goals as goal
 
 pub returns-in-One : goal.returns-in-One

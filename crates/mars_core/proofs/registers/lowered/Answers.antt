@@ -1,4 +1,4 @@
-use Rattle.{std.proofs.Common.{ℕ, ap, ◌∙◌}, mars_core.specs.{Cells.{with_number, minus}, Code.field_of}}
+use Rattle.{std.proofs.Common.{ℕ, ap, ◌∙◌}, mars_words.specs.{Numbers.{minus, with_number}, Code.field_of}}
 use Rattle.mars_core.proofs.registers.lowered.Goals as goal
 
 pub returns-clause-value : goal.returns-clause-value

@@ -1,4 +1,4 @@
-use Rattle.{std.proofs.Common.{◌∙◌, ℕ, ◌==◌, sym, ap₂, ne_eqb}, mars_core.specs.{Cells.number, Pairs.Pair, Code.pair_of}, mars_core.proofs.Pairs.{all-one, equal-then, equal-else}}
+use Rattle.{std.proofs.Common.{◌∙◌, ℕ, ◌==◌, sym, ap₂, ne_eqb}, mars_words.specs.{Numbers.number, Pairs.Pair, Code.pair_of}, mars_core.proofs.Pairs.{all-one, equal-then, equal-else}}
 use Rattle.mars_core.proofs.registers.numbers_equal.Goals as goal
 
 pub returns-in-One : goal.returns-in-One

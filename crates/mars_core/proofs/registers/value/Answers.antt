@@ -1,4 +1,4 @@
-use Rattle.{std.proofs.Common.{ap₂, ◌∙◌}, mars_core.specs.{Effect.combined, Code.arithmetic_of}}
+use Rattle.{std.proofs.Common.{ap₂, ◌∙◌}, mars_words.specs.{Numbers.combined, Code.arithmetic_of}}
 use Rattle.mars_core.proofs.registers.value.Goals as goal
 
 pub returns-clause-value : goal.returns-clause-value

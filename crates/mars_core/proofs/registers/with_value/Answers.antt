@@ -1,4 +1,4 @@
-use Rattle.{std.proofs.Common.{ℕ, ◌<◌, Option, sym, ap, subst, ◌∙◌, arith}, std.specs.Prelude.IfSome, mars_core.specs.{Effect.with_value, Code.field_of}}
+use Rattle.{std.proofs.Common.{ℕ, ◌<◌, Option, sym, ap, subst, ◌∙◌, arith}, std.specs.Prelude.IfSome, mars_words.specs.Code.field_of, mars_core.specs.Effect.with_value}
 use Rattle.mars_core.proofs.registers.with_value.Goals as goal
 
 pub with_number-requires : goal.with_number-requires

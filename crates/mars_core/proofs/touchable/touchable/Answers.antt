@@ -1,6 +1,7 @@
 -- The addresses are those that the instruction may write.
 use Rattle.std.proofs.{Common.{◌≡◌, ℕ, ◌+◌, ◌%◌, ◌<◌, [], ◌∷◌, List, All, sym, ap, ap₂, ◌∙◌, arith, mod-eq_of_lt}, lemmas.List.Elements.{All-cons, All-nil}}
-use Rattle.{war_types.specs.declared.instr.Instr.Instr, mars_core.specs.{Cells.{cell, number, plus, minus}, Operand.folded, Code.{field_of, led_by}}, mars_core.proofs.Touched.{on_by, executed-same}}
+use Rattle.war_types.specs.declared.instr.Instr.{Instr}
+use Rattle.{mars_words.specs.{Numbers.{plus, minus, folded, number}, Code.field_of}, mars_core.specs.{Cells.cell, Code.led_by}, mars_core.proofs.Touched.{on_by, executed-same}}
 use Rattle.mars_core.proofs.touchable.touchable.Goals as goal
 
 -- what holds of each of eight numbers holds of their list

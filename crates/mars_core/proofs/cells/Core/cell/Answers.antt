@@ -1,4 +1,4 @@
-use Rattle.{std.proofs.Common.{ap, ◌∙◌, arith, sym, subst}, mars_core.specs.Words.{Word, IsWord}, mars_core.proofs.Marks.{inside-core_in, cell-core_in, HasNumbersBelow-cell}}
+use Rattle.{std.proofs.Common.{ap, ◌∙◌, arith, sym, subst}, mars_words.specs.Words.{Word, IsWord}, mars_core.proofs.Marks.{inside-core_in, cell-core_in, HasNumbersBelow-cell}}
 use Rattle.mars_core.proofs.cells.Core.cell.Goals as goal
 
 pub index-requires : goal.index-requires

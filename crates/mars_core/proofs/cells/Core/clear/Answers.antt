@@ -1,4 +1,5 @@
-use Rattle.{std.proofs.{Common.{◌≡◌, ◌<◌, ℕ, length, get_or, replicate, sym, ap, ◌∙◌, length-set, lt_of_lt_of_le, arith}, lemmas.List.get_or_read}, mars_core.specs.{Cells.blank, Words.Word}}
+use Rattle.std.proofs.{Common.{◌≡◌, ◌<◌, ℕ, length, get_or, replicate, sym, ap, ◌∙◌, length-set, lt_of_lt_of_le, arith}, lemmas.List.get_or_read}
+use Rattle.{mars_words.specs.Words.Word, mars_core.specs.Cells.blank}
 use Rattle.mars_core.proofs.Marks.{AreLeft-next, AreLeft-none, AreCells-none, core_in-none}
 use Rattle.mars_core.proofs.cells.Core.clear.Goals as goal
 

@@ -1,4 +1,4 @@
-use Rattle.{std.proofs.{Common.{◌≡◌, ℕ, replicate, ap, ◌∙◌, List, length, arith}, lemmas.List.length-replicate}, mars_core.specs.{Cells.blank, Words.{Word, core_in}}}
+use Rattle.{std.proofs.{Common.{◌≡◌, ℕ, replicate, ap, ◌∙◌, List, length, arith}, lemmas.List.length-replicate}, mars_words.specs.Words.Word, mars_core.specs.{Cells.blank, Marks.core_in}}
 use Rattle.mars_core.proofs.Marks.{core_in-replicate, AreCells-new}
 use Rattle.mars_core.proofs.cells.Core.new.Goals as goal
 

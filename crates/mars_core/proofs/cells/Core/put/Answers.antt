@@ -1,4 +1,4 @@
-use Rattle.{std.proofs.Common.{◌≡◌, sym, ap, ◌∙◌}, mars_core.specs.Words.{Word, is_marked}}
+use Rattle.{std.proofs.Common.{◌≡◌, sym, ap, ◌∙◌}, mars_words.specs.Words.Word, mars_core.specs.Marks.is_marked}
 use Rattle.mars_core.proofs.Marks.{inside-core_in, is_marked-read, AreCells-set, core_in-set, IsCore-set}
 use Rattle.mars_core.proofs.cells.Core.put.Goals as goal
 

@@ -1,4 +1,5 @@
-use Rattle.{std.proofs.{Common.{◌≡◌, ℕ, List, length, set, sym, ap, subst₂, ◌∙◌, length-set, arith, subst}, lemmas.List.with_items_is}, mars_core.specs.Words.{Word, IsWord, AreCells, is_marked}}
+use Rattle.std.proofs.{Common.{◌≡◌, ℕ, List, length, set, sym, ap, subst₂, ◌∙◌, length-set, arith, subst}, lemmas.List.with_items_is}
+use Rattle.{mars_words.specs.Words.{Word, IsWord}, mars_core.specs.Marks.{AreCells, is_marked}}
 use Rattle.mars_core.proofs.Marks.{inside-core_in, is_marked-read, room-unmarked, AreCells-set, AreCells-push, core_in-set, IsCore-set}
 use Rattle.mars_core.proofs.cells.Core.put_marked.Goals as goal
 

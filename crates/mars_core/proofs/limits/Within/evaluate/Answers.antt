@@ -1,5 +1,5 @@
 use Rattle.{std.proofs.Common.{◌≡◌, ◌∙◌, ℕ, List, sym, ap, ◌<◌, subst, arith}, war_types.specs.{declared.instr.Instr.Instr, declared.instr.Mode.Mode}}
-use Rattle.mars_core.specs.{Cells.Field, Operand.{Reach, Pointers, Operand, Evaluated, pointed, evaluated, found_from, indirect, predecremented, postincremented, by_mode, operand}}
+use Rattle.{mars_words.specs.Numbers.Field, mars_core.specs.Operand.{Reach, Pointers, Operand, Evaluated, pointed, evaluated, found_from, indirect, predecremented, postincremented, by_mode, operand}}
 use Rattle.mars_core.proofs.limits.Within.evaluate.Goals as goal
 
 -- the operand, by the arm that its mode takes

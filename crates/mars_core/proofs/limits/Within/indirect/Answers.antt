@@ -1,4 +1,5 @@
-use Rattle.{std.proofs.Common.{◌≡◌, ℕ, ◌+◌, sym, ap, ap₂, ◌∙◌, ◌≤◌, subst, arith}, mars_core.specs.{Cells.{cell, number, plus}, Operand.{Reach, folded, pointers, found_from}, Code.field_of}}
+use Rattle.std.proofs.Common.{◌≡◌, ℕ, ◌+◌, sym, ap, ap₂, ◌∙◌, ◌≤◌, subst, arith}
+use Rattle.{mars_words.specs.{Numbers.{plus, folded, number}, Code.field_of}, mars_core.specs.{Cells.cell, Operand.{Reach, pointers, found_from}}}
 use Rattle.mars_core.proofs.limits.Within.indirect.Goals as goal
 
 pub returns-clause-value : goal.returns-clause-value

@@ -1,5 +1,5 @@
 use Rattle.{std.proofs.Common.{◌≡◌, ℕ, List, slice_set, sym, ap, ap₂, ◌∙◌, arith}, war_types.specs.declared.instr.Instr.Instr}
-use Rattle.mars_core.specs.{Cells.{cell, number, with_number, plus, minus}, Operand.{evaluated, lowered_at, indirect}, Code.{field_of, pointers_of}}
+use Rattle.{mars_words.specs.{Numbers.{plus, minus, number, with_number}, Code.field_of}, mars_core.specs.{Cells.cell, Operand.{evaluated, lowered_at, indirect}, Code.pointers_of}}
 use Rattle.mars_core.proofs.limits.Within.predecremented.Goals as goal
 
 pub returns-clause-value : goal.returns-clause-value

@@ -1,5 +1,0 @@
-use Rattle.{std.proofs.{Common.{◌/◌, ◌^◌, ◌∙◌}, lemmas.Nat.and_mask}, mars_core.proofs.Words.handler_is_read}
-use Rattle.mars_core.proofs.word.Word.handler.Goals as goal
-
-pub returns : goal.returns
-returns c = and_mask (c.self.inside.bits / 2 ^ 55) 7 ∙ handler_is_read c.self.inside.bits c.args.self c.self.invariant c.self.view_is

@@ -1,0 +1,67 @@
+-- The number of a kind's handler: its place in the list of kinds, and what it tells of the kind. For `place_of` of src/word.rt and the handlers.
+use Rattle.std.proofs.Common.{◌≡◌, ◌≢◌, ℕ, zero, suc, ◌+◌, ◌-◌, ◌<◌, ◌≤◌, Bool, if◌then◌else◌, inl, inr, List, [], ◌∷◌, length, get_or, refl, sym, ap, subst, ◌∙◌, arith}
+use Rattle.std.proofs.lemmas.Bool.{eq-eqb, ne_eqb, Decides.eqb_tells}
+use Rattle.{war_types.specs.declared.instr.Instr.Instr, mars_words.specs.Words.{kind_code, kinds, place_from, handler_at, handler_of}}
+
+-- what a list has at the place at which it has a number
+at_place : (n place h : ℕ) (xs : List ℕ) → place_from n place xs ≡ h → 0 < h → (place ≤ h) × (get_or xs (h - place) 0 ≡ n)
+unfolding place_from
+at_place n place h [] is some = absurd (omega arith)
+at_place n place h (x ∷ xs) is some =
+    elim (eqb_tells x n) [
+      | inl found ↦
+          (let e : place ≡ h = sym (ap (λ (b : Bool). if b then place else place_from n (place + 1) xs) found.0) ∙ is in
+          let none : h - place ≡ 0 = omega (arith, e) in
+          (omega (arith, e), ap (λ (k : ℕ). get_or (x ∷ xs) k 0) none ∙ found.1))
+      | inr other ↦
+          (let rest = at_place n (place + 1) h xs (sym (ap (λ (b : Bool). if b then place else place_from n (place + 1) xs) other.0) ∙ is) some in
+          let next : h - place ≡ suc (h - (place + 1)) = omega (arith, rest.0) in
+          (omega (arith, rest.0), ap (λ (k : ℕ). get_or (x ∷ xs) k 0) next ∙ rest.1))
+    ]
+
+-- the place at which it has a number first, and what it tells if it hasn't the number
+pub place_from-found : (n place k : ℕ) (xs : List ℕ) → k < length xs → get_or xs k 0 ≡ n → ((j : ℕ) → j < k → get_or xs j 0 ≢ n) → place_from n place xs ≡ place + k
+unfolding place_from
+place_from-found n place k [] inside is before = absurd (omega (arith, inside))
+place_from-found n place zero (x ∷ xs) inside is before = ap (λ (b : Bool). if b then place else place_from n (place + 1) xs) (eq-eqb x n is) ∙ omega arith
+place_from-found n place (suc k) (x ∷ xs) inside is before =
+    ap (λ (b : Bool). if b then place else place_from n (place + 1) xs) (ne_eqb x n (before 0 (omega arith)))
+    ∙ place_from-found n (place + 1) k xs (omega (arith, inside)) is (λ j below. before (suc j) (omega (arith, below))) ∙ omega arith
+
+pub place_from-none : (n place : ℕ) (xs : List ℕ) → ((j : ℕ) → j < length xs → get_or xs j 0 ≢ n) → place_from n place xs ≡ 0
+unfolding place_from
+place_from-none n place [] none = refl
+place_from-none n place (x ∷ xs) none =
+    ap (λ (b : Bool). if b then place else place_from n (place + 1) xs) (ne_eqb x n (none 0 (omega arith)))
+    ∙ place_from-none n (place + 1) xs (λ j below. none (suc j) (omega (arith, below)))
+
+pub handler_at-found : (kind k : ℕ) → k < 128 → get_or kinds k 0 ≡ kind → ((j : ℕ) → j < k → get_or kinds j 0 ≢ kind) → handler_at kind ≡ k
+unfolding handler_at kinds
+handler_at-found kind k inside is before = place_from-found kind 0 k kinds inside is before ∙ omega arith
+
+pub handler_at-none : (kind : ℕ) → ((j : ℕ) → j < 128 → get_or kinds j 0 ≢ kind) → handler_at kind ≡ 0
+unfolding handler_at kinds
+handler_at-none kind none = place_from-none kind 0 kinds none
+
+-- a place is inside of the list
+place-below : (n place : ℕ) (xs : List ℕ) → 0 < place + length xs → place_from n place xs < place + length xs
+unfolding place_from
+place-below n place [] some = omega (arith, some)
+place-below n place (x ∷ xs) some =
+    elim (eqb_tells x n) [
+      | inl found ↦ subst (λ (b : Bool). (if b then place else place_from n (place + 1) xs) < place + length (x ∷ xs)) (sym found.0) (omega arith)
+      | inr other ↦
+          (let rest = place-below n (place + 1) xs (omega arith) in
+          subst (λ (b : Bool). (if b then place else place_from n (place + 1) xs) < place + length (x ∷ xs)) (sym other.0) (omega (arith, rest)))
+    ]
+
+pub handler-below : (i : Instr) → handler_of i < 128
+unfolding handler_at kinds
+handler-below i = place-below (kind_code i) 0 kinds (omega arith)
+
+-- the kind of an instruction whose handler is known
+pub kind_of_handler : (i : Instr) (n h : ℕ) → n ≡ handler_of i → n ≡ h → 0 < h → kind_code i ≡ get_or kinds h 0
+unfolding handler_at
+kind_of_handler i n h is at some =
+    let same : h - 0 ≡ h = omega arith in
+    sym (at_place (kind_code i) 0 h kinds (sym is ∙ at) some).1 ∙ ap (λ (k : ℕ). get_or kinds k 0) same
