@@ -1,4 +1,4 @@
--- What a command on a hill comes to.
+-- What a command on a hill answers, and how it ends.
 use Rattle.std.specs.Prelude.{◌≡◌, ◌⊎◌, ℕ, List, [], Result, Ok, Err}
 use Rattle.war_types.specs.declared.{settings.RawSettings.RawSettings, settings.SettingsFault.SettingsFault}
 use Rattle.koth_commands.specs.{Answer.{AnswerParts, answer_parts, Delivers}, Streams.Streams, Trouble.no_memory, declared.{status.Status.Status, trouble.{Fault.Fault, Trouble.Trouble}}}
@@ -23,7 +23,7 @@ AnswersGiven May (Err fault) (Err trouble) = (trouble.fault ≡ Fault.Settings f
 abbrev pub SaysLine : List ℕ → AnswerParts → Type 0
 SaysLine line answer = answer ≡ answer_parts Status.Done line []
 
--- how a command ends: what it came to was delivered, and that was such
+-- how a command ends: its answer, or why it has none, is such a one and was delivered
 pub record Ends (May : Outcome → Type 0) (status : Status) (before after : Streams) : Type 0 where
   pub outcome : Outcome
   pub may : May outcome

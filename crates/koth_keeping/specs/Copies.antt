@@ -14,6 +14,6 @@ CopiesOf hill audit answer =
 abbrev pub SaysCopied : Bool → AnswerParts → Type 0
 SaysCopied audit answer = (hill : Kept) × CopiesOf hill audit answer
 
--- what `reseed` comes to: its line, or a fault, as that of a seed that is out of its range
+-- what `reseed` answers: its line, or a fault, as that of a seed that is out of its range
 abbrev pub MayReseed : Outcome → Type 0
 MayReseed outcome = IfOk outcome (SaysLine (codes "RESEEDED\n"))

@@ -1,4 +1,4 @@
--- What a command on a hill comes to, and how it ends.
+-- What a command on a hill answers, and how it ends.
 pub mod Answers
 -- The seed that is drawn for a hill, and what is told of the default one.
 pub mod Seed

@@ -1,4 +1,4 @@
--- What moving the hill in a file of the old format to another file comes to.
+-- What `migrate` answers.
 use Rattle.std.specs.{Prelude.{◌≡◌, ◌⊎◌, ℕ, List, Ok, Err, codes}, Borrow.Bor}
 use Rattle.{sector_disk.specs.Facts.DeviceFacts, hill_store.specs.{Opened.{IsMigrated, IsNotMigrated}, Seen.Seen, declared.migration.{MigrateFault.MigrateFault, MigrateSide.MigrateSide}}}
 use Rattle.{koth_words.specs.declared.requests.Migration.Migration, koth_commands.specs.{Trouble.no_memory, declared.trouble.Trouble.Trouble}}
@@ -26,7 +26,7 @@ pub record RefusesToMigrate {D : Type 0} (facts : DeviceFacts D) (files : Migrat
   pub refused : IsNotMigrated facts facts old old_after new new_after why
   pub told : trouble ≡ refused_at (file_of files why.side) why.refusal
 
--- what moving a hill from one device to another comes to: the line that says so only if it was moved
+-- the answer to moving a hill from one device to another: the line that says so only if it was moved
 abbrev pub MigratesTo : {D : Type 0} → DeviceFacts D → Migration → D → D → Outcome → Type 0
 MigratesTo facts files old new (Ok answer) = Migrates facts old new × SaysLine migrated_line answer
 MigratesTo facts files old new (Err trouble) = (trouble ≡ no_memory) ⊎ RefusesToMigrate facts files old new trouble

@@ -100,7 +100,7 @@ fn a_refusal_is_its_line_and_its_kind(rt: HostRuntime) {
     expect_text(&rt, &AsmFault::MEMORY, "0 Memory");
 }
 
-/// The refusal for want of memory.
+/// The refusal for lack of memory.
 fn expect_memory(rt: &impl Abort, found: AsmFault) {
     let memory = AsmFault {
         line: 0,

@@ -340,7 +340,7 @@ fn judged_by_what_is_kept(rt: HostRuntime) {
     drop(hill);
 }
 
-/// One that stays comes to such a hill.
+/// A challenger that stays enters such a hill.
 fn check_judged(rt: &(impl Abort + AllocGlobal), hill: &mut Hill<Global>, arena: &mut Arena<Global>)
     requires { arena.old.settings ≡ hill.old.settings }
 {

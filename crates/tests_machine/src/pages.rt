@@ -147,7 +147,7 @@ const ESCAPED: [&str; 2] = [
     "<td title=\"Imp against &quot;&gt;&lt;script&gt;alert(&#39;??&#39;)&lt;/script&gt;\">1/9/0</td>",
 ];
 
-/// A name is cut to printable ASCII before it comes to a hill, so its letter of two bytes is two question marks.
+/// A name is cut to printable ASCII before its warrior enters a hill, so its letter of two bytes is two question marks.
 #[test]
 fn page_with_hostile_names(rt: HostRuntime) {
     check_three(

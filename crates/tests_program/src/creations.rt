@@ -1,4 +1,4 @@
-//! How the file of a new hill comes to its place.
+//! How the file of a new hill is put in its place.
 
 use crate::steps::{Step, play, small, steps};
 use koth_server::View;

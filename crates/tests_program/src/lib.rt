@@ -9,7 +9,7 @@
 //! - `assembling`, `fights` and `hills`: what the commands write, how they end, and what they do to files;
 //! - `contests`: a warrior against many, the rounds of a match, and the page of a round;
 //! - `inputs`: sources from standard input, and what `check` reports of sources;
-//! - `creations`: how the file of a new hill comes to its place, and headers and names that are told;
+//! - `creations`: how the file of a new hill is put in its place, and headers and names that are told;
 //! - `copies`: what a submission would be answered, a copy of a hill, and a hill with another seed;
 //! - `seeds`: the seed that is drawn, and what is told of the default one;
 //! - `logs`: the log of a service whose output takes no line for a while;

@@ -4,7 +4,7 @@ use crate::services::callers::{Cue, Deed};
 use crate::services::serving::{ALL, Due, act_out, act_within};
 use koth_service::Limits;
 
-/// This number of peers at once, at most so many of one host, until this number of sessions has ended.
+/// Limits of `peers` at once, `peers_per_address` of one host if that is given, until `connections` sessions have ended.
 fn within(peers: usize, peers_per_address: Option<u32>, connections: u32) -> Limits {
     Limits {
         peers,
