@@ -22,11 +22,11 @@ pub record IsLostSeen {S : Type 0} (facts : DeviceFacts S) (old new : S) (lost :
 abbrev pub IsDamagedSeen : {S : Type 0} → DeviceFacts S → S → S → ℕ → Type 0
 IsDamagedSeen facts old new entry = Sees facts old new (λ image. IsDamaged image entry)
 
--- what is told where there is no hill: that it is one of the old format only if one was read
+-- what is told if there is no hill: that it is one of the old format only if one was read
 abbrev pub TellsNone : {S : Type 0} → DeviceFacts S → Bor (List ℕ) → S → S → Trouble → Type 0
 TellsNone facts path old new trouble = (trouble ≡ refused_at path Refusal.NotAHill) ⊎ ((trouble ≡ old_hill_at path) × Sees facts old new HoldsOld)
 
--- what is told where a warrior can't be read: which one it is only if that was read
+-- what is told if a warrior can't be read: which one it is only if that was read
 abbrev pub TellsDamage : {S : Type 0} → DeviceFacts S → Bor (List ℕ) → S → S → Trouble → Type 0
 TellsDamage facts path old new trouble =
     (trouble ≡ refused_at path Refusal.Damaged) ⊎ ((entry : ℕ) × (trouble ≡ damaged_at path entry) × IsDamagedSeen facts old new entry)
