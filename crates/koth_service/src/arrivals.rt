@@ -4,7 +4,7 @@
 ghost use Rattle.std.specs.Prelude.{◌≡◌, ◌↔◌, ◌+◌, IsTrue, Some};
 ghost use Rattle.koth_service.specs.{Seats.seat_at, Places.{IsLongestUpTo, MayGive, MayLeave, longer}, Standing.{KeepsOn, KeepsOnArrived}, Told.Grows};
 
-use crate::desk::{Desk, let_go};
+use crate::desk::{Desk, are_enough, let_go};
 use crate::host::{Event, Host, HowEnded};
 use crate::log::LogWrite;
 use crate::seats::Seat;
@@ -39,7 +39,7 @@ pub(crate) fn take_arrivals<S: Sockets, D: Device, A: Allocator + Copy, H: Host<
     ensures told { Grows (E.contents errors.old) (E.contents errors.new) }
 {
     for _arrival in 0..ARRIVALS {
-        if desk.sessions.have_begun(desk.limits.connections) {
+        if are_enough(desk.sessions.begun, desk.limits.connections) {
             return;
         }
         let place = place_for_one(desk);
@@ -154,7 +154,7 @@ fn admit<S: Sockets, D: Device, A: Allocator + Copy, H: Host<D, A>, E: LogWrite>
         Ok(number) => {
             sockets.seat(number);
             desk.seats.sit(number, address, desk.clock);
-            desk.sessions.begin();
+            desk.sessions.begun = desk.sessions.begun.saturating_add(1);
             host.tell(address, Event::Connected, errors);
         }
         Err(NotConnected::Full | NotConnected::Memory) => sockets.refuse(),

@@ -36,36 +36,17 @@ pub(crate) struct Desk<D: Device, A: Allocator + Copy> {
 /// How many sessions there were.
 #[derive(Clone, Copy, Drop)]
 pub(crate) struct Sessions {
-    begun: u64,
+    pub(crate) begun: u64,
     pub(crate) ended: u64,
 }
 
-impl Sessions {
-    /// Whether as many have begun as are asked for.
-    pub(crate) fn have_begun(&self, connections: Option<u32>) -> bool {
-        connections.is_some_and(|connections| self.begun >= u64::from(connections))
-    }
-
-    /// Whether as many have ended as are asked for.
-    pub(crate) fn are_done(&self, connections: Option<u32>) -> bool
-        ensures { result ≡ true → HaveEnded connections self.now.ended }
-    {
-        match connections {
-            Some(connections) => self.ended >= u64::from(connections),
-            None => false,
-        }
-    }
-
-    pub(crate) fn begin(&mut self)
-        ensures { self.new.ended ≡ self.old.ended }
-    {
-        self.begun = self.begun.saturating_add(1);
-    }
-
-    pub(crate) fn end(&mut self)
-        ensures { self.new.ended ≤ self.old.ended + 1 }
-    {
-        self.ended = self.ended.saturating_add(1);
+/// Whether this many sessions are as many as are asked for.
+pub(crate) fn are_enough(sessions: u64, connections: Option<u32>) -> bool
+    ensures { result ≡ true → HaveEnded connections sessions }
+{
+    match connections {
+        Some(connections) => sessions >= u64::from(connections),
+        None => false,
     }
 }
 
@@ -141,7 +122,7 @@ pub(crate) fn let_go<S: Sockets, D: Device, A: Allocator + Copy, H: Host<D, A>, 
     sockets.close(number);
     desk.peers.leave(number, &mut desk.judge);
     desk.seats.leave(number);
-    desk.sessions.end();
+    desk.sessions.ended = desk.sessions.ended.saturating_add(1);
     desk.is_busy = true;
     if let Some(address) = address {
         host.tell(address, Event::Ended(how), errors);

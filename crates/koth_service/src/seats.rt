@@ -60,25 +60,21 @@ impl Seat {
 
     /// Milliseconds until the peer has been waited for as long as it may be.
     fn until(&self, now: u64) -> u64 {
-        match self.draining {
-            Some(draining) => left(now, draining.since, DRAIN),
-            None => left(now, self.active, PATIENCE),
-        }
+        let (since, most) = match self.draining {
+            Some(draining) => (draining.since, DRAIN),
+            None => (self.active, PATIENCE),
+        };
+        most.saturating_sub(now.saturating_sub(since))
     }
 
     /// Milliseconds until the peer may be disconnected for another; `UNUSED` if it may be already.
     fn until_unused(&self, now: u64) -> u64 {
         let most = if self.has_spoken { UNUSED } else { UNSPOKEN };
-        match left(now, self.useful, most) {
+        match most.saturating_sub(now.saturating_sub(self.useful)) {
             0 => UNUSED,
             left => left,
         }
     }
-}
-
-/// What is left of `most` milliseconds since a moment.
-fn left(now: u64, since: u64, most: u64) -> u64 {
-    most.saturating_sub(now.saturating_sub(since))
 }
 
 /// Seats by the numbers of the peers.

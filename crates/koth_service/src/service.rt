@@ -7,7 +7,7 @@ ghost use Rattle.koth_service.specs.{Connections.{stage_at, AllGoOn}, Standing.{
 use crate::arrivals::take_arrivals;
 use crate::browsers::serve_browsers;
 use crate::connections::Browsers;
-use crate::desk::Desk;
+use crate::desk::{Desk, are_enough};
 use crate::host::Host;
 use crate::limits::Limits;
 use crate::log::LogWrite;
@@ -97,7 +97,7 @@ fn serve_rounds<S: Sockets, D: Device + Drop, A: Allocator + Copy, H: Host<D, A>
     let mut desk = desk;
     for _round in 0..u64::MAX {
         give_out(&mut desk, browsers, sockets, host, errors);
-        if desk.sessions.are_done(connections) {
+        if are_enough(desk.sessions.ended, connections) {
             return Ok(());
         }
         let step = take_in(&mut desk, browsers, sockets, host, errors);

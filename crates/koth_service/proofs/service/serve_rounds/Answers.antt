@@ -10,12 +10,12 @@ loop-round-init g c = (
   stays _,
 )
 
-pub returns-then-are_done-clause-served : goal.returns-then-are_done-clause-served
-returns-then-are_done-clause-served g c = λ none.
-    so_far_done g.S.Sockets.happened g.D.Device.facts (g.H.Host.shows c.args.host.now) _ _ c.args.connections _ _ _ _ (c.are_done.ensures c.if-are_done.true) (c.give_out.ensures.served _ (c.loop-round.invariant.0 none))
+pub returns-then-are_enough-clause-served : goal.returns-then-are_enough-clause-served
+returns-then-are_enough-clause-served g c = λ none.
+    so_far_done g.S.Sockets.happened g.D.Device.facts (g.H.Host.shows c.args.host.now) _ _ c.args.connections _ _ _ _ (c.are_enough.ensures c.if-are_enough.true) (c.give_out.ensures.served _ (c.loop-round.invariant.0 none))
 
-pub returns-then-are_done-clause-told : goal.returns-then-are_done-clause-told
-returns-then-are_done-clause-told g c = grows_on _ _ _ c.loop-round.invariant.1 c.give_out.ensures.told
+pub returns-then-are_enough-clause-told : goal.returns-then-are_enough-clause-told
+returns-then-are_enough-clause-told g c = grows_on _ _ _ c.loop-round.invariant.1 c.give_out.ensures.told
 
 pub returns-in-Err-clause-served : goal.returns-in-Err-clause-served
 returns-in-Err-clause-served g c = λ none.
