@@ -1,6 +1,6 @@
 -- Of private contracts alone: connections of browsers by their numbers, and how they go on.
-use Rattle.std.specs.Prelude.{◌≡◌, ⊤, ℕ, ◌<◌, Bool, List, length, Option, None, Some, Result, Ok, Err, Vec}
-use Rattle.std.specs.{Prelude.slice_index_or, declared.alloc.AllocError.AllocError}
+use Rattle.std.specs.Prelude.{◌≡◌, ⊤, ℕ, ◌<◌, Bool, List, length, Option, None, Some, Result, Ok, Err}
+use Rattle.std.specs.{Prelude.{Vec, slice_index_or}, declared.alloc.AllocError.AllocError}
 use Rattle.{sector_disk.specs.Facts.DeviceFacts, hill_store.specs.Seen.Seen}
 use Rattle.koth_http.specs.{Asked.IsAsked, Response.{page_response, refusal_response}, declared.refusal.Refusal.Refusal}
 use Rattle.koth_service.specs.{Noted.{Adds, Noted, Stays}, Answering.{AnswersBytes, Site}, Moment.{Start, instead}}
@@ -46,7 +46,8 @@ StaysAt stage None = ⊤
 StaysAt stage (Some connection) = connection.stage ≡ stage
 
 -- the connection's socket is closed, unless it is kept
-abbrev pub ClosesUnless : {S A : Type 0} → (S → List Noted → Type 0) → ℕ → Option (Connection A) → S → S → Type 0
+abbrev pub ClosesUnless : {S A : Type 0} → (S → List Noted → Type 0) → ℕ → Option (Connection A) → S → S
+    → Type 0
 ClosesUnless happened n None old new = Adds happened (Noted.Left n) old new
 ClosesUnless happened n (Some connection) old new = Stays happened old new
 
@@ -65,24 +66,24 @@ AnswersOnceKnown site bytes (Some answer) = AnswersBytes site bytes answer.items
 
 -- the service goes on when the connection of this number comes from one stage to another, however the peers and the
 -- other browsers stand
-abbrev pub MovesOn : {S D A : Type 0} → (S → List Noted → Type 0) → DeviceFacts D → Shows D → Seen D → ℕ → S
-    → Option (Stage A) → S → Option (Stage A) → Type 0
+abbrev pub MovesOn : {S D A : Type 0} → (S → List Noted → Type 0) → DeviceFacts D → Shows D → Seen D
+    → ℕ → S → Option (Stage A) → S → Option (Stage A) → Type 0
 MovesOn {S} {D} {A} happened facts shows store n sockets stage new_sockets new_stage =
     (start : Start D) (peers : PeersNow A) (browsers : ℕ → Option (Stage A))
     → GoesOn happened facts shows start sockets peers (instead browsers n stage) store
     → GoesOn happened facts shows start new_sockets peers (instead browsers n new_stage) store
 
 -- the service goes on as it did, however the peers stand
-abbrev pub BrowsersGoOn : {S D A : Type 0} → (S → List Noted → Type 0) → DeviceFacts D → Shows D → Seen D → S
-    → Browsers A → S → Browsers A → Type 0
+abbrev pub BrowsersGoOn : {S D A : Type 0} → (S → List Noted → Type 0) → DeviceFacts D → Shows D → Seen D
+    → S → Browsers A → S → Browsers A → Type 0
 BrowsersGoOn {S} {D} {A} happened facts shows store sockets browsers new_sockets new_browsers =
     (start : Start D) (peers : PeersNow A)
     → GoesOn happened facts shows start sockets peers (stage_at browsers.connections.items) store
     → GoesOn happened facts shows start new_sockets peers (stage_at new_browsers.connections.items) store
 
 -- the service goes on as it did, for peers and browsers
-abbrev pub AllGoOn : {S D A : Type 0} → (S → List Noted → Type 0) → DeviceFacts D → Shows D → S → Desk D A → Browsers A
-    → S → Desk D A → Browsers A → Type 0
+abbrev pub AllGoOn : {S D A : Type 0} → (S → List Noted → Type 0) → DeviceFacts D → Shows D → S → Desk D A
+    → Browsers A → S → Desk D A → Browsers A → Type 0
 AllGoOn {S} {D} {A} happened facts shows sockets desk browsers new_sockets new_desk new_browsers =
     (start : Start D)
     → GoesOn happened facts shows start sockets (peers_of desk) (stage_at browsers.connections.items) desk.judge.store

@@ -9,7 +9,8 @@ use Rattle.koth_service.specs.{Moment.{Happening, Start, moment}, History.{IsHis
 -- The sources that count after a history: those from before it, and those of the submissions that were answered, in
 -- the order of their answers. And the one in which the device failed, until the hill is opened again: that decides
 -- whether it counts.
-abbrev pub Counts : {D : Type 0} → List (List ℕ) → List (Happening D) → List (List ℕ) → Option (List ℕ) → Type 0
+abbrev pub Counts : {D : Type 0} → List (List ℕ) → List (Happening D) → List (List ℕ) → Option (List ℕ)
+    → Type 0
 Counts before [] found more = (found ≡ before) × (more ≡ None)
 Counts before (Happening.On what ∷ older) found more = Counts before older found more
 Counts before (Happening.Answered n e new ∷ older) found more =
@@ -17,7 +18,8 @@ Counts before (Happening.Answered n e new ∷ older) found more =
     × (more ≡ None)
 Counts before (Happening.Stopped n end ∷ older) found more = Counts before older found more
 Counts before (Happening.Stepped n source ∷ older) found more = Counts before older found more
-Counts before (Happening.CutOff n source new ∷ older) found more = Counts before older found None × (more ≡ Some source)
+Counts before (Happening.CutOff n source new ∷ older) found more =
+    Counts before older found None × (more ≡ Some source)
 Counts before (Happening.Reopened new ∷ older) found more =
     (answered : List (List ℕ)) × (last : Option (List ℕ)) × Counts before older answered last
     × AreDecided answered last found × (more ≡ None)
@@ -34,7 +36,8 @@ pub record IsHeld {D : Type 0} (facts : DeviceFacts D) (s : RawSettings) (before
   pub holds : IsHeldWith facts s found more (moment start history).now
 
 -- so it is at each moment of a history
-abbrev pub AreHeld : {D : Type 0} → DeviceFacts D → RawSettings → List (List ℕ) → Start D → List (Happening D) → Type 0
+abbrev pub AreHeld : {D : Type 0} → DeviceFacts D → RawSettings → List (List ℕ) → Start D
+    → List (Happening D) → Type 0
 AreHeld facts s before start [] = IsHeld facts s before start []
 AreHeld facts s before start (what ∷ older) =
     IsHeld facts s before start (what ∷ older) × AreHeld facts s before start older

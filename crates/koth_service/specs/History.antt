@@ -1,7 +1,8 @@
 -- What may happen in a service.
-use Rattle.std.specs.Prelude.{◌≡◌, ◌⊎◌, ⊤, ℕ, ◌-◌, ◌<◌, ◌≤◌, true, false, List, [], ◌∷◌, ◌++◌, length}
-use Rattle.std.specs.Prelude.{Option, None, Some, IsSome}
-use Rattle.{sector_disk.specs.{Facts.DeviceFacts, Served.IsKept}, hill_store.specs.{Opened.IsOpened, Seen.{Assembled, MayBeSpent, Seen}}}
+use Rattle.std.specs.Prelude.{◌≡◌, ◌⊎◌, ⊤, ℕ, ◌-◌, ◌<◌, ◌≤◌, true, false, List, []}
+use Rattle.std.specs.Prelude.{◌∷◌, ◌++◌, length, Option, None, Some, IsSome}
+use Rattle.sector_disk.specs.{Facts.DeviceFacts, Served.IsKept}
+use Rattle.hill_store.specs.{Opened.IsOpened, Seen.{Assembled, MayBeSpent, Seen}}
 use Rattle.koth_protocol.specs.Commands.{Command, Reader, commands_read}
 use Rattle.koth_session.specs.{Sessions.{AreServed, IsLeftOff, KeepsCut, KeepsList}, Transcript.{Exchange, command_in}}
 use Rattle.koth_session.specs.{Peer.IsFull, Peers.ComesBefore, declared.end.PeerEnd.PeerEnd}
@@ -193,12 +194,13 @@ MayDisconnect most n how m = ((m.sessions n).there ≡ true) × IsCause most n h
 
 -- A number that is free, and below `most`, is given to a peer; or one that is free to a browser. At most 16,777,216
 -- bytes come from a peer. What goes out to a peer is the next of what it is owed, and its commands are carried out in
--- their order, one submission after the other. No wait begins while a peer that was not shut is silent for too long. A peer's writing side is shut
--- once its session has ended and all answers went out, and its socket is closed for a cause. Each browser is given
--- one answer at most, and what goes out to it is the next of that.
+-- their order, one submission after the other. No wait begins while a peer that was not shut is silent for too long.
+-- A peer's writing side is shut once its session has ended and all answers went out, and its socket is closed for a
+-- cause. Each browser is given one answer at most, and what goes out to it is the next of that.
 abbrev pub Follows : {D : Type 0} → DeviceFacts D → Shows D → ℕ → Happening D → Moment D → Type 0
 Follows facts shows most (Happening.On (Noted.Clock t)) m = ⊤
-Follows facts shows most (Happening.On (Noted.Waited t)) m = (p : ℕ) → (m.sessions p).shut ≡ false → ¬ (IsSilent p m)
+Follows facts shows most (Happening.On (Noted.Waited t)) m =
+    (p : ℕ) → (m.sessions p).shut ≡ false → ¬ (IsSilent p m)
 Follows facts shows most (Happening.On Noted.Arrived) m = ⊤
 Follows facts shows most (Happening.On Noted.Refused) m = ⊤
 Follows facts shows most (Happening.On (Noted.Seated n)) m = ((m.sessions n).there ≡ false) × (n < most)

@@ -1,7 +1,7 @@
 -- What happens in a service: on the sockets, and the commands and answers to browsers in between. And how it stands
 -- then.
-use Rattle.std.specs.Prelude.{ℕ, ◌+◌, ◌==◌, max, Bool, true, false, if◌then◌else◌, List, [], ◌∷◌, ◌++◌}
-use Rattle.std.specs.Prelude.{Option, None, Some}
+use Rattle.std.specs.Prelude.{ℕ, ◌+◌, ◌==◌, max, Bool, true, false, if◌then◌else◌, List, []}
+use Rattle.std.specs.Prelude.{◌∷◌, ◌++◌, Option, None, Some}
 use Rattle.{hill_store.specs.Seen.Seen, koth_session.specs.Transcript.{Exchange, answer, command_in}}
 use Rattle.koth_session.specs.declared.end.PeerEnd.{PeerEnd}
 use Rattle.koth_service.specs.{Noted.Noted, Session.{Browser, Session, browser_anew, browser_came}}
@@ -11,8 +11,9 @@ use Rattle.koth_service.specs.Session.{session_over, session_shut, session_went}
 use Rattle.koth_service.specs.declared.host.HowEnded.{HowEnded}
 
 -- Something happened on the sockets. A command of a peer was carried out, and this is the store then. A command that
--- is due of a peer ended its session. A submission of a peer was begun with this source, or fought on. The device failed in a submission of
--- a peer. The hill was opened again. A peer was disconnected for this cause. Or a browser was given this answer.
+-- is due of a peer ended its session. A submission of a peer was begun with this source, or fought on. The device
+-- failed in a submission of a peer. The hill was opened again. A peer was disconnected for this cause. Or a browser was
+-- given this answer.
 pub data Happening (D : Type 0) : Type 0 where
   On : Noted → Happening D
   Answered : ℕ → Exchange → Seen D → Happening D

@@ -59,7 +59,8 @@ Writes happened n old bytes Went.Nothing new = Stays happened old new
 Writes happened n old bytes Went.Gone new = Adds happened (Noted.Lost n) old new
 
 -- the bytes that came from a browser are added
-abbrev pub ReadsBrowser : {S : Type 0} → (S → List Noted → Type 0) → ℕ → S → List ℕ → Came → S → Type 0
+abbrev pub ReadsBrowser : {S : Type 0} → (S → List Noted → Type 0) → ℕ → S → List ℕ → Came → S
+    → Type 0
 ReadsBrowser happened n old bytes (Came.Bytes count) new =
     (count ≤ length bytes) × Adds happened (Noted.Requested n (take count bytes)) old new
 ReadsBrowser happened n old bytes Came.End new = Stays happened old new
@@ -67,7 +68,8 @@ ReadsBrowser happened n old bytes Came.Nothing new = Stays happened old new
 ReadsBrowser happened n old bytes Came.Gone new = Stays happened old new
 
 -- the bytes that went out to a browser are added
-abbrev pub WritesBrowser : {S : Type 0} → (S → List Noted → Type 0) → ℕ → S → List ℕ → Went → S → Type 0
+abbrev pub WritesBrowser : {S : Type 0} → (S → List Noted → Type 0) → ℕ → S → List ℕ → Went → S
+    → Type 0
 WritesBrowser happened n old bytes (Went.Bytes count) new =
     (count ≤ length bytes) × Adds happened (Noted.Shown n (take count bytes)) old new
 WritesBrowser happened n old bytes Went.Nothing new = Stays happened old new

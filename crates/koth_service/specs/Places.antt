@@ -1,7 +1,9 @@
 -- Of private contracts alone: a peer that may be disconnected for another.
-use Rattle.std.specs.Prelude.{◌≡◌, ⊤, ℕ, ◌<◌, ◌≤◌, nat_le, false, if◌then◌else◌, length, Option, None, Some, IsSome}
+use Rattle.std.specs.Prelude.{◌≡◌, ⊤, ℕ, ◌<◌, ◌≤◌, nat_le, false, if◌then◌else◌, length}
+use Rattle.std.specs.Prelude.{Option, None, Some, IsSome}
 use Rattle.koth_session.specs.Peers.{is_due_at, is_finished_in, peer_at}
-use Rattle.koth_service.specs.{Seats.{IsUnused, seat_at}, declared.{arrivals.Place.Place, desk.Desk.Desk, seats.Seat.Seat}}
+use Rattle.koth_service.specs.Seats.{IsUnused, seat_at}
+use Rattle.koth_service.specs.declared.{arrivals.Place.Place, desk.Desk.Desk, seats.Seat.Seat}
 
 -- its session goes on or answers are unsent, no command of it is due, and it is of no use
 pub record MayLeave {D A : Type 0} (n : ℕ) (seat : Seat) (desk : Desk D A) : Type 0 where
@@ -26,7 +28,8 @@ longer (Some (k, other)) n seat = if nat_le other.useful seat.useful then Some (
 -- of those below this number that may leave it was of use longest ago
 abbrev pub IsLongestUpTo : {D A : Type 0} → ℕ → Option (ℕ × Seat) → Desk D A → Type 0
 IsLongestUpTo below None desk =
-    (p : ℕ) (other : Seat) → p < below → seat_at desk.seats.seats.items p ≡ Some other → ¬ (MayLeave p other desk)
+    (p : ℕ) (other : Seat) → p < below → seat_at desk.seats.seats.items p ≡ Some other
+    → ¬ (MayLeave p other desk)
 IsLongestUpTo below (Some (n, seat)) desk =
     (seat_at desk.seats.seats.items n ≡ Some seat) × MayLeave n seat desk
     × ((p : ℕ) (other : Seat) → p < below → seat_at desk.seats.seats.items p ≡ Some other

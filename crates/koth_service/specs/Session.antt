@@ -1,5 +1,6 @@
 -- How one peer, and one browser, stands in a service.
-use Rattle.std.specs.Prelude.{ℕ, Bool, true, false, if◌then◌else◌, List, [], ◌∷◌, ◌++◌, Option, None, Some}
+use Rattle.std.specs.Prelude.{ℕ, Bool, true, false, if◌then◌else◌, List, [], ◌∷◌, ◌++◌}
+use Rattle.std.specs.Prelude.{Option, None, Some}
 use Rattle.{koth_protocol.specs.Commands.Command, koth_session.specs.declared.end.PeerEnd.PeerEnd}
 use Rattle.koth_service.specs.Seats.{has_line}
 

@@ -153,30 +153,30 @@ pub record CameToBe {S D A : Type 0} (happened : S → List Noted → Type 0) (f
   pub of_one : IsOfOne store.hill.settings peers.slots peers.under_way
 
 -- as some history left them, in which the device is sound
-abbrev pub GoesOn : {S D A : Type 0} → (S → List Noted → Type 0) → DeviceFacts D → Shows D → Start D → S → PeersNow A
-    → (ℕ → Option (Stage A)) → Seen D → Type 0
+abbrev pub GoesOn : {S D A : Type 0} → (S → List Noted → Type 0) → DeviceFacts D → Shows D → Start D
+    → S → PeersNow A → (ℕ → Option (Stage A)) → Seen D → Type 0
 GoesOn {S} {D} {A} happened facts shows start sockets peers browsers store =
     (history : List (Happening D)) × CameToBe happened facts shows start sockets peers browsers store history
     × IsSafe facts (moment start history)
 
 -- as some history left them, and the device has failed: no submission is under way
-abbrev pub IsCutOff : {S D A : Type 0} → (S → List Noted → Type 0) → DeviceFacts D → Shows D → Start D → S → PeersNow A
-    → (ℕ → Option (Stage A)) → Seen D → Type 0
+abbrev pub IsCutOff : {S D A : Type 0} → (S → List Noted → Type 0) → DeviceFacts D → Shows D → Start D
+    → S → PeersNow A → (ℕ → Option (Stage A)) → Seen D → Type 0
 IsCutOff {S} {D} {A} happened facts shows start sockets peers browsers store =
     (history : List (Happening D)) × CameToBe happened facts shows start sockets peers browsers store history
     × (store.reopen ≡ true) × (peers.under_way ≡ None)
 
 -- the service goes on as it did, however the browsers stand
-abbrev pub KeepsOn : {S D A : Type 0} → (S → List Noted → Type 0) → DeviceFacts D → Shows D → S → Desk D A → S
-    → Desk D A → Type 0
+abbrev pub KeepsOn : {S D A : Type 0} → (S → List Noted → Type 0) → DeviceFacts D → Shows D
+    → S → Desk D A → S → Desk D A → Type 0
 KeepsOn {S} {D} {A} happened facts shows sockets desk new_sockets new_desk =
     (start : Start D) (browsers : ℕ → Option (Stage A))
     → GoesOn happened facts shows start sockets (peers_of desk) browsers desk.judge.store
     → GoesOn happened facts shows start new_sockets (peers_of new_desk) browsers new_desk.judge.store
 
 -- the same, if this is so at the moment to which the history led
-abbrev pub KeepsOnWhere : {S D A : Type 0} → (Start D → Moment D → Type 0) → (S → List Noted → Type 0) → DeviceFacts D
-    → Shows D → S → Desk D A → S → Desk D A → Type 0
+abbrev pub KeepsOnWhere : {S D A : Type 0} → (Start D → Moment D → Type 0) → (S → List Noted → Type 0)
+    → DeviceFacts D → Shows D → S → Desk D A → S → Desk D A → Type 0
 KeepsOnWhere {S} {D} {A} P happened facts shows sockets desk new_sockets new_desk =
     (start : Start D) (browsers : ℕ → Option (Stage A))
     → (on : GoesOn happened facts shows start sockets (peers_of desk) browsers desk.judge.store)
@@ -184,19 +184,19 @@ KeepsOnWhere {S} {D} {A} P happened facts shows sockets desk new_sockets new_des
     → GoesOn happened facts shows start new_sockets (peers_of new_desk) browsers new_desk.judge.store
 
 -- if the peer of this number may be disconnected for this cause
-abbrev pub LeavesFor : {S D A : Type 0} → (S → List Noted → Type 0) → DeviceFacts D → Shows D → ℕ → HowEnded → S
-    → Desk D A → S → Desk D A → Type 0
+abbrev pub LeavesFor : {S D A : Type 0} → (S → List Noted → Type 0) → DeviceFacts D → Shows D → ℕ
+    → HowEnded → S → Desk D A → S → Desk D A → Type 0
 LeavesFor happened facts shows n how sockets desk new_sockets new_desk =
     KeepsOnWhere (λ start m. MayDisconnect start.most n how m) happened facts shows sockets desk new_sockets new_desk
 
 -- if a connection waits for a number
-abbrev pub KeepsOnArrived : {S D A : Type 0} → (S → List Noted → Type 0) → DeviceFacts D → Shows D → S → Desk D A → S
-    → Desk D A → Type 0
+abbrev pub KeepsOnArrived : {S D A : Type 0} → (S → List Noted → Type 0) → DeviceFacts D → Shows D
+    → S → Desk D A → S → Desk D A → Type 0
 KeepsOnArrived happened facts shows sockets desk new_sockets new_desk =
     KeepsOnWhere (λ start m. m.round.waits ≡ true) happened facts shows sockets desk new_sockets new_desk
 
-abbrev pub StandsAfter : {S D A : Type 0} → (S → List Noted → Type 0) → DeviceFacts D → Shows D → Step → Start D → S
-    → PeersNow A → (ℕ → Option (Stage A)) → Seen D → Type 0
+abbrev pub StandsAfter : {S D A : Type 0} → (S → List Noted → Type 0) → DeviceFacts D → Shows D → Step
+    → Start D → S → PeersNow A → (ℕ → Option (Stage A)) → Seen D → Type 0
 StandsAfter happened facts shows Step.Nobody start sockets peers browsers store =
     GoesOn happened facts shows start sockets peers browsers store
 StandsAfter happened facts shows (Step.Served n) start sockets peers browsers store =
@@ -209,8 +209,8 @@ StandsAfter happened facts shows (Step.StoreFailed n) start sockets peers browse
     IsCutOff happened facts shows start sockets peers browsers store
 
 -- the service goes on as it did, however the browsers stand, unless the device failed in this step
-abbrev pub KeepsOnBy : {S D A : Type 0} → (S → List Noted → Type 0) → DeviceFacts D → Shows D → Step → S → Desk D A → S
-    → Desk D A → Type 0
+abbrev pub KeepsOnBy : {S D A : Type 0} → (S → List Noted → Type 0) → DeviceFacts D → Shows D → Step
+    → S → Desk D A → S → Desk D A → Type 0
 KeepsOnBy {S} {D} {A} happened facts shows step sockets desk new_sockets new_desk =
     (start : Start D) (browsers : ℕ → Option (Stage A))
     → GoesOn happened facts shows start sockets (peers_of desk) browsers desk.judge.store
@@ -262,8 +262,8 @@ HaveEnded (Some connections) ended = connections ≤ ended
 -- What happened on the sockets, the commands that were carried out and the answers to browsers are a history of this
 -- start. If its store held what some sources earn, the device held at each moment what they and the submissions
 -- answered by then earn. An end without a fault comes once as many sessions have ended as were asked for.
-pub record IsServed {S D T F : Type 0} (happened : S → List Noted → Type 0) (facts : DeviceFacts D) (shows : Shows D)
-    (start : Start D) (connections : Option ℕ) (result : Result T F) (sockets : S)
+pub record IsServed {S D T F : Type 0} (happened : S → List Noted → Type 0) (facts : DeviceFacts D)
+    (shows : Shows D) (start : Start D) (connections : Option ℕ) (result : Result T F) (sockets : S)
     (history : List (Happening D)) : Type 0 where
   pub logged : happened sockets (noted history)
   pub follows : IsHistory facts shows start history
@@ -272,8 +272,8 @@ pub record IsServed {S D T F : Type 0} (happened : S → List Noted → Type 0) 
   pub done : IfOk result (λ nothing. HaveEnded connections (ended_in (noted history)))
 
 -- if nothing had happened on the sockets before
-abbrev pub ServesPeers : {S D T F : Type 0} → (S → List Noted → Type 0) → DeviceFacts D → Shows D → Start D → Option ℕ
-    → Result T F → S → S → Type 0
+abbrev pub ServesPeers : {S D T F : Type 0} → (S → List Noted → Type 0) → DeviceFacts D → Shows D → Start D
+    → Option ℕ → Result T F → S → S → Type 0
 ServesPeers {S} {D} happened facts shows start connections result old new =
     happened old []
     → (history : List (Happening D)) × IsServed happened facts shows start connections result new history

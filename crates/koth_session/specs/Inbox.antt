@@ -1,5 +1,6 @@
 -- What came from a peer, and which commands of it are due.
-use Rattle.std.specs.Prelude.{◌≡◌, ⊤, ℕ, ◌-◌, ◌≤◌, min, Bool, true, false, List, [], ◌∷◌, ◌++◌, length, Option}
+use Rattle.std.specs.Prelude.{◌≡◌, ⊤, ℕ, ◌-◌, ◌≤◌, min, Bool, true, false}
+use Rattle.std.specs.Prelude.{List, [], ◌∷◌, ◌++◌, length, Option}
 use Rattle.koth_protocol.specs.{Commands.{Command, Reader, commands_read, read_from}, Lines.lines_from}
 use Rattle.koth_protocol.specs.{Reading.{IsReading, commands_met}, declared.script.Met.Met}
 use Rattle.koth_session.specs.declared.inbox.Inbox.{Inbox}
@@ -64,4 +65,5 @@ pub record IsReadTo {A : Type 0} (reader : Reader) (inbox : Inbox A) (came : Lis
 
 -- what was met is this command, whatever comes after it
 abbrev pub IsNext : Reader → Met → List ℕ → Command → Type 0
-IsNext reader met bytes command = (others : List Command) → commands_met reader met bytes others ≡ command ∷ others
+IsNext reader met bytes command =
+    (others : List Command) → commands_met reader met bytes others ≡ command ∷ others

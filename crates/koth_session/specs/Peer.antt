@@ -1,12 +1,15 @@
 -- One session as a value: what came of it, what was carried out, and what is to be sent.
-use Rattle.std.specs.Prelude.{◌≡◌, ◌≢◌, ◌⊎◌, ⊤, ℕ, ◌+◌, ◌<◌, ◌≤◌, nat_le, Bool, true, false, if◌then◌else◌, List, []}
-use Rattle.std.specs.Prelude.{◌∷◌, ◌++◌, drop, length, Option, None, Some}
-use Rattle.{koth_hill.specs.Kept.{Kept, table_kept}, sector_disk.specs.Facts.DeviceFacts, hill_store.specs.Seen.{MayBeSpent, Seen}}
+use Rattle.std.specs.Prelude.{◌≡◌, ◌≢◌, ◌⊎◌, ⊤, ℕ, ◌+◌, ◌<◌, ◌≤◌, nat_le, Bool}
+use Rattle.std.specs.Prelude.{true, false, if◌then◌else◌, List, [], ◌∷◌, ◌++◌, drop, length}
+use Rattle.std.specs.Prelude.{Option, None, Some}
+use Rattle.{koth_hill.specs.Kept.{Kept, table_kept}, sector_disk.specs.Facts.DeviceFacts}
+use Rattle.hill_store.specs.Seen.{MayBeSpent, Seen}
 use Rattle.{hill_store.specs.declared.reply.Reply.Reply, koth_session.specs.Reply.reply_line}
 use Rattle.koth_protocol.specs.Commands.{Command, Reader, commands_read, kept_source}
 use Rattle.koth_protocol.specs.{Table.show_text, declared.script.Met.Met}
 use Rattle.koth_session.specs.{Sessions.{AreServed, IsLeftOff, has_failed}, Transcript.{Exchange, answer, command_in}}
-use Rattle.koth_session.specs.{Inbox.{IsNext, IsReadTo, IsTaken, is_met, is_request, is_submission, room_of}, declared.end.PeerEnd.PeerEnd}
+use Rattle.koth_session.specs.Inbox.{IsNext, IsReadTo, IsTaken, is_met, is_request, is_submission, room_of}
+use Rattle.koth_session.specs.declared.end.PeerEnd.{PeerEnd}
 use Rattle.koth_session.specs.{declared.inbox.Inbox.Inbox, declared.peer.Peer.Peer}
 use Rattle.koth_protocol.specs.declared.script.Met.TheVariants as met
 
@@ -49,19 +52,23 @@ may_come_now peer = may_come peer.end peer.closed (room_of peer.inbox)
 
 -- What a session that stands so made of what came: these commands were carried out and answered. As long as the session
 -- goes on, the next one is due, or more bytes may come.
-abbrev pub HasRead : {A : Type 0} → Reader → Option PeerEnd → Inbox A → Bool → List ℕ → List Command → Type 0
+abbrev pub HasRead : {A : Type 0} → Reader → Option PeerEnd → Inbox A → Bool → List ℕ → List Command
+    → Type 0
 HasRead reader None inbox closed came done =
     IsReadTo reader inbox came done × (is_met inbox.due ≡ false → (closed ≡ false) × (length came < 16777216))
 HasRead reader (Some PeerEnd.Quit) inbox closed came done = commands_read reader came ≡ done ++ Command.Quit ∷ []
-HasRead reader (Some PeerEnd.EndOfInput) inbox closed came done = (commands_read reader came ≡ done) × (closed ≡ true)
+HasRead reader (Some PeerEnd.EndOfInput) inbox closed came done =
+    (commands_read reader came ≡ done) × (closed ≡ true)
 HasRead reader (Some PeerEnd.Limit) inbox closed came done =
     (commands_read reader came ≡ done) × (length came ≡ 16777216)
 HasRead reader (Some PeerEnd.Unread) inbox closed came done =
     (command : Command) × (behind : List Command) × (commands_read reader came ≡ done ++ command ∷ behind)
 HasRead reader (Some PeerEnd.StepsSpent) inbox closed came done =
-    (source : List ℕ) × (behind : List Command) × (commands_read reader came ≡ done ++ Command.Submit source ∷ behind)
+    (source : List ℕ) × (behind : List Command)
+    × (commands_read reader came ≡ done ++ Command.Submit source ∷ behind)
 HasRead reader (Some PeerEnd.StoreFailed) inbox closed came done =
-    (source : List ℕ) × (behind : List Command) × (commands_read reader came ≡ done ++ Command.Submit source ∷ behind)
+    (source : List ℕ) × (behind : List Command)
+    × (commands_read reader came ≡ done ++ Command.Submit source ∷ behind)
 HasRead reader (Some PeerEnd.Memory) inbox closed came done =
     (command : Command) × (behind : List Command) × (commands_read reader came ≡ done ++ command ∷ behind)
 
@@ -148,8 +155,8 @@ Says text (Some PeerEnd.StoreFailed) unsent new = ⊥
 -- What came of a command: it was carried out on the store, and its answer stands after those that are unsent; or the
 -- session ends. For want of memory it does only at `SHOW`, or while answers are unsent. For want of steps it does only
 -- at a source of which an assembly may spend those that it has.
-abbrev pub AnswersPeer : {D : Type 0} → DeviceFacts D → Option ℕ → Command → Option PeerEnd → List ℕ → Seen D → List ℕ → Seen D
-    → Type 0
+abbrev pub AnswersPeer : {D : Type 0} → DeviceFacts D → Option ℕ → Command → Option PeerEnd → List ℕ
+    → Seen D → List ℕ → Seen D → Type 0
 AnswersPeer facts steps command None unsent old unsent_new new =
     (e : Exchange) × (command ≡ command_in e) × AreServed facts old new (e ∷ [])
     × (unsent_new ≡ unsent ++ answer old.hill e)
@@ -160,9 +167,11 @@ AnswersPeer facts steps command (Some PeerEnd.Limit) unsent old unsent_new new =
 AnswersPeer facts steps command (Some PeerEnd.Unread) unsent old unsent_new new =
     IsFull old.hill command unsent × (new ≡ old) × (unsent_new ≡ unsent)
 AnswersPeer facts steps command (Some PeerEnd.StepsSpent) unsent old unsent_new new =
-    (source : List ℕ) × (command ≡ Command.Submit source) × MayBeSpent steps source × (new ≡ old) × (unsent_new ≡ unsent)
+    (source : List ℕ) × (command ≡ Command.Submit source) × MayBeSpent steps source × (new ≡ old)
+    × (unsent_new ≡ unsent)
 AnswersPeer facts steps command (Some PeerEnd.StoreFailed) unsent old unsent_new new =
-    (source : List ℕ) × (command ≡ Command.Submit source) × IsLeftOff facts old new source × (unsent_new ≡ unsent)
+    (source : List ℕ) × (command ≡ Command.Submit source) × IsLeftOff facts old new source
+    × (unsent_new ≡ unsent)
 AnswersPeer facts steps command (Some PeerEnd.Memory) unsent old unsent_new new =
     ((command ≡ Command.Show) ⊎ (unsent ≢ [])) × (new ≡ old) × (unsent_new ≡ unsent)
 
@@ -212,7 +221,8 @@ pub record Settles {A : Type 0} (outcome : Option PeerEnd) (old new : Peer A) : 
 -- the command that was due was carried out, a source within these steps if there are any, or it ended the session
 pub record Serves {D A : Type 0} (facts : DeviceFacts D) (steps : Option ℕ) (outcome : Option PeerEnd)
     (old_peer : Peer A) (old : Seen D) (new_peer : Peer A) (new : Seen D) : Type 0 where
-  pub answers : AnswersPeer facts steps (command_of old_peer) outcome old_peer.outbox.unsent old new_peer.outbox.unsent new
+  pub answers : AnswersPeer facts steps (command_of old_peer) outcome old_peer.outbox.unsent old
+      new_peer.outbox.unsent new
   pub reads : (reader : Reader) (came : List ℕ) (done : List Command) → IsTaken reader old_peer.inbox.due
       → IsPeer reader old_peer came done
       → IsPeer reader new_peer came (done_after outcome done (command_of old_peer))

@@ -1,8 +1,10 @@
 -- Many sessions on one store: whose turn it is, and what each call leaves as it is.
-use Rattle.std.specs.Prelude.{◌≡◌, ◌≢◌, ◌⊎◌, ⊤, ℕ, ◌+◌, ◌<◌, ◌≤◌, ◌==◌, ◌&&◌, ◌||◌, Bool, true, false, not, List, [], length, Option}
-use Rattle.std.specs.Prelude.{None, Some, IsSome, is_some, Result, Ok, Err, slice_index_or}
+use Rattle.std.specs.Prelude.{◌≡◌, ◌≢◌, ◌⊎◌, ⊤, ℕ, ◌+◌, ◌<◌, ◌≤◌, ◌==◌}
+use Rattle.std.specs.Prelude.{◌&&◌, ◌||◌, Bool, true, false, not, List, [], length, Option, None, Some}
+use Rattle.std.specs.Prelude.{IsSome, is_some, Result, Ok, Err, slice_index_or}
 use Rattle.war_types.specs.declared.settings.RawSettings.{RawSettings}
-use Rattle.{sector_disk.specs.Facts.DeviceFacts, hill_store.specs.Submission.SubmissionParts, koth_protocol.specs.Commands.kept_source}
+use Rattle.{sector_disk.specs.Facts.DeviceFacts, hill_store.specs.Submission.SubmissionParts}
+use Rattle.koth_protocol.specs.Commands.{kept_source}
 use Rattle.koth_session.specs.Judge.{Fight, GoesFurther, IsOfSource, Judged, fighting, without}
 use Rattle.koth_session.specs.Peer.{IsNew, Serves, Stays, asks_now, is_due_now, may_come_now, submits_now}
 use Rattle.koth_session.specs.{declared.end.PeerEnd.PeerEnd, declared.peers.NotConnected.NotConnected}
@@ -75,8 +77,8 @@ unsent_at slots n = unsent_in (peer_at slots n)
 abbrev pub ComesBefore : ℕ → ℕ → ℕ → Type 0
 ComesBefore start p n = ((start ≤ p) × (p < n)) ⊎ ((n < start) × ((p < n) ⊎ (start ≤ p)))
 
--- Whether the turn may come to the peer of this number: while the submission of a peer is under way, only to that one, and to those whose
--- command that is due is no submission.
+-- Whether the turn may come to the peer of this number: while the submission of a peer is under way, only to that one,
+-- and to those whose command that is due is no submission.
 abbrev pub is_beside : Option ℕ → ℕ → Bool → Bool
 is_beside None n submits = true
 is_beside (Some k) n submits = (n == k) || not submits
@@ -127,21 +129,23 @@ IsOfOne settings slots (Some (n, submission)) = IsOfPeer settings (peer_at slots
 abbrev pub IsOfIts : {D A : Type 0} → ℕ → Peer A → Judged D → Type 0
 IsOfIts n peer judge =
     (submission : SubmissionParts) → judge.under_way ≡ Some (n, submission)
-    → (submits_now peer ≡ true) × IsOfSource judge.store.hill.settings (kept_source peer.inbox.script.source) submission
+    → (submits_now peer ≡ true)
+    × IsOfSource judge.store.hill.settings (kept_source peer.inbox.script.source) submission
 
 abbrev pub IsOfIn : {D A : Type 0} → ℕ → Option (Peer A) → Judged D → Type 0
 IsOfIn n None judge = ⊤
 IsOfIn n (Some peer) judge = IsOfIts n peer judge
 
--- A turn of the peer of this number: its command was carried out, or ended its session. Its submission is not under way any more. If
--- another's is, the store is the same.
+-- A turn of the peer of this number: its command was carried out, or ended its session. Its submission is not under way
+-- any more. If another's is, the store is the same.
 pub record IsServed {D A : Type 0} (facts : DeviceFacts D) (steps : Option ℕ) (outcome : Option PeerEnd) (n : ℕ)
     (old_peer : Peer A) (old : Judged D) (new_peer : Peer A) (new : Judged D) : Type 0 where
   pub serves : Serves facts steps outcome old_peer old.store new_peer new.store
   pub under_way : new.under_way ≡ without n old.under_way
   pub beside : IsSome new.under_way → new.store ≡ old.store
 
--- A turn of the peer of this number: its submission was begun, or went on by a step. The peer and the store are the same.
+-- A turn of the peer of this number: its submission was begun, or went on by a step. The peer and the store are the
+-- same.
 pub record IsStepped {D A : Type 0} (n : ℕ) (old_peer : Peer A) (old : Judged D) (new_peer : Peer A)
     (new : Judged D) : Type 0 where
   pub submits : submits_now old_peer ≡ true
@@ -171,7 +175,8 @@ step_after (Some PeerEnd.StepsSpent) n = Step.Served n
 step_after (Some PeerEnd.StoreFailed) n = Step.StoreFailed n
 step_after (Some PeerEnd.Memory) n = Step.Served n
 
-abbrev pub ServesNext : {D A : Type 0} → DeviceFacts D → Option ℕ → Step → Slots A → ℕ → Judged D → Slots A → ℕ → Judged D → Type 0
+abbrev pub ServesNext : {D A : Type 0} → DeviceFacts D → Option ℕ → Step → Slots A → ℕ → Judged D
+    → Slots A → ℕ → Judged D → Type 0
 ServesNext facts steps Step.Nobody old start old_judge new next new_judge =
     ((p : ℕ) → may_serve_at (fighting old_judge.under_way) old p ≡ false) × (new ≡ old) × (next ≡ start)
     × (new_judge ≡ old_judge)
@@ -181,10 +186,11 @@ ServesNext facts steps (Step.Served n) old start old_judge new next new_judge =
 ServesNext facts steps (Step.Stepped n) old start old_judge new next new_judge =
     ServesOne (λ p q. IsStepped n p old_judge q new_judge) n old start old_judge new next
 ServesNext facts steps (Step.Asked n) old start old_judge new next new_judge =
-    IsFirstDue (fighting old_judge.under_way) old start n × (asks_at old n ≡ true) × (new ≡ old) × (next ≡ start)
-    × (new_judge ≡ old_judge)
+    IsFirstDue (fighting old_judge.under_way) old start n × (asks_at old n ≡ true) × (new ≡ old)
+    × (next ≡ start) × (new_judge ≡ old_judge)
 ServesNext facts steps (Step.StoreFailed n) old start old_judge new next new_judge =
-    ServesOne (λ p q. IsServed facts steps (Some PeerEnd.StoreFailed) n p old_judge q new_judge) n old start old_judge new next
+    ServesOne (λ p q. IsServed facts steps (Some PeerEnd.StoreFailed) n p old_judge q new_judge) n old start
+    old_judge new next
 
 -- ---- what connecting makes of them
 

@@ -1,6 +1,6 @@
 -- How a session goes, and how it ends.
-use Rattle.std.specs.Prelude.{◌≡◌, ◌⊎◌, ⊤, ℕ, ◌+◌, ◌-◌, ◌^◌, ◌<◌, ◌≤◌, Bool, true, false, List, [], ◌∷◌, ◌++◌, length}
-use Rattle.std.specs.Prelude.{Option, None, Some}
+use Rattle.std.specs.Prelude.{◌≡◌, ◌⊎◌, ⊤, ℕ, ◌+◌, ◌-◌, ◌^◌, ◌<◌, ◌≤◌, Bool}
+use Rattle.std.specs.Prelude.{true, false, List, [], ◌∷◌, ◌++◌, length, Option, None, Some}
 use Rattle.std.specs.Io.KnownBytes.{Appends, Consumes, IsAtEnd, Keeps}
 use Rattle.war_types.specs.declared.settings.RawSettings.{RawSettings}
 use Rattle.koth_hill.specs.{Hill.{Hill, IsHill}, Kept.{Kept, fought}}
@@ -73,7 +73,8 @@ pub record IsLeftOff {D : Type 0} (facts : DeviceFacts D) (old new : Seen D) (so
       ⊎ Reads (facts.size new.device) image (kept_next old.hill source))
 
 -- what a command brought about: it was answered, or the session ends
-abbrev pub AnswersCommand : {D : Type 0} → DeviceFacts D → Command → Option SessionEnd → Scene D → Scene D → Type 0
+abbrev pub AnswersCommand : {D : Type 0} → DeviceFacts D → Command → Option SessionEnd → Scene D → Scene D
+    → Type 0
 AnswersCommand facts command None old new =
     (e : Exchange) × (command ≡ command_in e) × AreServed facts old.store new.store (e ∷ [])
     × Appends old.output new.output (answer old.store.hill e)
@@ -125,7 +126,8 @@ KeepsCut facts old new es source =
     → Holds (facts.size new.device) (facts.disk new.device) s (sources ++ submitted es) (Some source)
 
 -- what the device holds after a command that ended the session
-abbrev pub HoldsAt : {D : Type 0} → DeviceFacts D → SessionEnd → Command → Seen D → Seen D → List Exchange → Type 0
+abbrev pub HoldsAt : {D : Type 0} → DeviceFacts D → SessionEnd → Command → Seen D → Seen D → List Exchange
+    → Type 0
 HoldsAt facts SessionEnd.Quit command old new es = KeepsList facts old new es
 HoldsAt facts SessionEnd.Memory command old new es = KeepsList facts old new es
 HoldsAt facts SessionEnd.WriteFault command old new es =
@@ -161,7 +163,8 @@ pub record AnswersFirst {D : Type 0} (facts : DeviceFacts D) (taken : List ℕ) 
   pub ended : AnswersCommand facts command (Some end) last new
   pub holds : HoldsAt facts end command old.store new.store es
 
-abbrev pub EndsSo : {D : Type 0} → DeviceFacts D → SessionEnd → List ℕ → Option (List ℕ) → Scene D → Scene D → Type 0
+abbrev pub EndsSo : {D : Type 0} → DeviceFacts D → SessionEnd → List ℕ → Option (List ℕ) → Scene D
+    → Scene D → Type 0
 EndsSo facts SessionEnd.Quit taken left old new = AnswersFirst facts taken SessionEnd.Quit old new
 EndsSo facts SessionEnd.EndOfInput taken left old new = IsAtEnd left × AnswersAll facts taken old new
 EndsSo facts SessionEnd.ReadFault taken left old new = AnswersAll facts taken old new
@@ -173,8 +176,8 @@ EndsSo facts SessionEnd.Memory taken left old new =
     ⊎ AnswersFirst facts taken SessionEnd.Memory old new
 
 -- Bytes were taken, 16,777,216 at most, the device was handed on, and the session ended so.
-abbrev pub EndsSession : {D : Type 0} → DeviceFacts D → SessionEnd → Option (List ℕ) → Option (List ℕ) → Scene D
-    → Scene D → Type 0
+abbrev pub EndsSession : {D : Type 0} → DeviceFacts D → SessionEnd → Option (List ℕ) → Option (List ℕ)
+    → Scene D → Scene D → Type 0
 EndsSession facts end had left old new =
     (taken : List ℕ) × Consumes had left taken × (length taken ≤ 16777216)
     × IsKept facts old.store.device new.store.device × EndsSo facts end taken left old new

@@ -29,12 +29,14 @@ pub record IsServing {D A : Type 0} (facts : DeviceFacts D) (came : List ℕ) (p
   pub open_still : IsOpen peer.end
 
 -- so it still is, or a command ended the session
-abbrev pub Goes : {D A : Type 0} → DeviceFacts D → Option SessionEnd → List ℕ → Peer A → Scene D → Scene D → Type 0
+abbrev pub Goes : {D A : Type 0} → DeviceFacts D → Option SessionEnd → List ℕ → Peer A → Scene D → Scene D
+    → Type 0
 Goes facts None came peer begun now = IsServing facts came peer begun now
 Goes facts (Some end) came peer begun now = AnswersFirst facts came end begun now
 
 -- however it began
-abbrev pub GoesOn : {D A : Type 0} → DeviceFacts D → Option SessionEnd → Peer A → Scene D → Peer A → Scene D → Type 0
+abbrev pub GoesOn : {D A : Type 0} → DeviceFacts D → Option SessionEnd → Peer A → Scene D → Peer A → Scene D
+    → Type 0
 GoesOn {D} facts end old was new now =
     (came : List ℕ) (begun : Scene D) → IsServing facts came old begun was → Goes facts end came new begun now
 
