@@ -1,165 +1,17 @@
 -- How a history goes on by a command, or by a step of a submission.
-use Rattle.{std.proofs.Common.{◌≡◌, inl, inr, ℕ, ◌+◌, Bool, true, false, true≢false, length, List, [], ◌∷◌, ◌++◌, Option, None, Some, IsSome, refl, sym, ap, subst, ◌∙◌, append_assoc}, std.proofs.lemmas.Bool.cases_eq}
-use Rattle.{sector_disk.specs.Facts.DeviceFacts, hill_store.specs.Seen.{Assembled, MayBeSpent, Seen}, koth_protocol.specs.Commands.{Command, Reader, commands_read, kept_source}}
-use Rattle.{koth_protocol.specs.declared.script.Met.Met, koth_session.specs.{Sessions.{AreServed, IsLeftOff}, Transcript.{Exchange, answer, command_in}}}
-use Rattle.koth_session.proofs.{Answering.submit_due, Exchanges.served_on, Fights.may_serve_now, Holding.{keeps_cut, keeps_list}}
-use Rattle.koth_session.specs.{Inbox.{IsTaken, is_met, is_request}, Judge.{Fight, Judged, fighting, without}, Peer.{HasRead, IsFull, IsPeer, Serves, command_due, command_of, is_due}}
-use Rattle.koth_session.specs.Peers.{ComesBefore, IsFirstDue, IsOfOne, IsServed, IsStepped, Moves, ServesNext, ServesOne, Slots, asks_in, is_due_in, may_serve_in, peer_at, step_after}
-use Rattle.koth_session.specs.declared.{end.PeerEnd.PeerEnd, inbox.Inbox.Inbox, peer.Peer.Peer, peers.Step.Step}
-use Rattle.koth_session.proofs.{Steps.{same_store, same_unsent}, Standing.{behind_met, those_came}}
-use Rattle.koth_service.specs.{Noted.Noted, Seats.{SeatMoves, Seats, seat_at, seat_map, seat_served}, Session.{Session, session_answered, session_over}}
-use Rattle.koth_service.specs.Moment.{Happening, Moment, Start, answered, instead, moment, other_than, round_after}
-use Rattle.koth_service.specs.History.{Answers, Begins, Breaks, Fights, HasNoRoom, IsBeside, IsSafe, IsTurn, MayBeServed, MayDisconnect, Shows, Stops}
-use Rattle.koth_service.specs.Standing.{AreStanding, CameToBe, GoesOn, IsCutOff, IsRound, PeersNow, Stands, StandsAt, fought_to, over_by}
-use Rattle.koth_service.specs.declared.{connections.Stage.Stage, host.HowEnded.HowEnded, seats.Seat.Seat}
-use Rattle.koth_service.proofs.{Causes.{asks, beside_at, nobody_may, not_over}, Moments.{at_both, only_seats, over_settled, same_peer, standing_with}, Stages.{came_to_be, fighting_without, safe_on}}
-
--- ---- the command that is due is the next one in what came, if it is no browser's request
-
-taken_by : (reader : Reader) (m : Met) → is_request m ≡ false → IsTaken reader m
-taken_by Reader.Session m other = tt
-taken_by Reader.Service m other = other
-
-module _ {A : Type 0} where
-  in_turn_at : (end : Option PeerEnd) (inbox : Inbox A) (closed : Bool) (came : List ℕ) (done : List Command) → is_due end (is_met inbox.due) ≡ true
-      → is_request inbox.due ≡ false → (reader : Reader) → HasRead reader end inbox closed came done
-      → Begins (done ++ command_due inbox.due (kept_source inbox.script.source) ∷ []) (commands_read reader came)
-  in_turn_at (Some end) inbox closed came done due other reader read = absurd (true≢false (sym due))
-  in_turn_at None inbox closed came done due other reader read =
-      let those = those_came reader inbox came done read.0 in
-      let here = behind_met reader inbox.due inbox.script.source those.0 due (taken_by reader inbox.due other) in
-      let command = command_due inbox.due (kept_source inbox.script.source) in
-      (here.0, those.1 ∙ ap (λ l. done ++ l) here.1 ∙ sym (append_assoc done (command ∷ []) here.0))
-
-  in_turn : (peer : Peer A) (came : List ℕ) (done : List Command) → is_due_in (Some peer) ≡ true → asks_in (Some peer) ≡ false
-      → (reader : Reader) → IsPeer reader peer came done → Begins (done ++ command_of peer ∷ []) (commands_read reader came)
-  in_turn peer came done due other reader is = in_turn_at peer.end peer.inbox peer.closed came done due other reader is.has_read
-
--- ---- what a command makes of a moment
-
-module _ {D : Type 0} (facts : DeviceFacts D) where
-  -- no stop loses it
-  safe_answered : (n : ℕ) (e : Exchange) (new : Seen D) (m : Moment D) → AreServed facts m.now new (e ∷ []) → IsSafe facts m → IsSafe facts (answered n e new m)
-  safe_answered n e new m served safe = record {
-    served = served_on facts m.first m.now new m.since (e ∷ []) safe.served served;
-    open_now = served.still ∙ safe.open_now;
-    holds = keeps_list facts m.first new (m.since ++ e ∷ []) (served_on facts m.first m.now new m.since (e ∷ []) safe.served served);
-  }
-
-turn_by : {D : Type 0} (n : ℕ) (m : Moment D) (one other : Command) → one ≡ other → IsTurn n one m → IsTurn n other m
-turn_by n m one other is turn = subst (λ (k : Command). IsTurn n k m) is turn
-
-module _ {D A : Type 0} (facts : DeviceFacts D) where
-  -- a session that ended by its command
-  ended_at : (steps : Option ℕ) (end : PeerEnd) (s : Session) (time : ℕ) (peer new : Peer A) (seat : Seat) (store now : Seen D) → over_by (Some end) ≡ Some end → Serves facts steps (Some end) peer store new now
-      → asks_in (Some peer) ≡ false → StandsAt s (Some peer) (Some seat) → StandsAt (session_over end time s) (Some new) (Some (seat_served time seat))
-  ended_at steps end s time peer new seat store now same serves other stands =
-      let was = stands.0 in
-      let of = stands.1 in (
-        record {
-          reads = λ reader. serves.reads reader s.came s.done (taken_by reader peer.inbox.due other) (was.reads reader);
-          owed = ap (λ l. s.went ++ l) (same_unsent facts steps end (command_of peer) peer.outbox.unsent new.outbox.unsent store now serves.answers) ∙ was.owed;
-          there = was.there;
-          over = sym same ∙ ap over_by (sym serves.end);
-          at_end = was.at_end ∙ sym serves.closed;
-        },
-        record { active = refl; useful = refl; spoken = of.spoken; shut = of.shut },
-      )
-
-  -- a command that was answered
-  answered_at : (steps : Option ℕ) (s : Session) (time : ℕ) (peer new : Peer A) (seat : Seat) (before store now : Seen D) → before ≡ store → (serves : Serves facts steps None peer store new now)
-      → is_due_in (Some peer) ≡ true → asks_in (Some peer) ≡ false → StandsAt s (Some peer) (Some seat)
-      → StandsAt (session_answered (command_in serves.answers.0) (answer before.hill serves.answers.0) time s) (Some new) (Some (seat_served time seat))
-  answered_at steps s time peer new seat before store now is serves due other stands =
-      let was = stands.0 in
-      let of = stands.1 in
-      let e = serves.answers.0 in
-      let done : s.done ++ command_of peer ∷ [] ≡ s.done ++ command_in e ∷ [] = ap (λ (k : Command). s.done ++ k ∷ []) serves.answers.1 in
-      let more = answer store.hill e in
-      let all : s.went ++ new.outbox.unsent ≡ s.owed ++ answer before.hill e =
-      ap (λ l. s.went ++ l) serves.answers.3 ∙ sym (append_assoc s.went peer.outbox.unsent more) ∙ ap (λ l. l ++ more) was.owed
-      ∙ ap (λ (k : Seen D). s.owed ++ answer k.hill e) (sym is) in (
-        record {
-          reads = λ reader. subst (λ l. IsPeer reader new s.came l) done (serves.reads reader s.came s.done (taken_by reader peer.inbox.due other) (was.reads reader));
-          owed = all;
-          there = was.there;
-          over = not_over s peer was due ∙ sym (over_settled None (is_met new.inbox.due) new.inbox.taken new.closed) ∙ ap over_by (sym serves.end);
-          at_end = was.at_end ∙ sym serves.closed;
-        },
-        record { active = refl; useful = refl; spoken = of.spoken; shut = of.shut },
-      )
-
-  -- it is this peer's turn
-  turn_of : (n : ℕ) (m : Moment D) (slots : Slots A) (seats : Seats) (peer : Peer A) (seat : Seat) (from : ℕ) (busy : Option ℕ) → ((p : ℕ) → StandsAt (m.sessions p) (peer_at slots p) (seat_at seats p))
-      → Stands (m.sessions n) peer → may_serve_in busy n (Some peer) ≡ true → asks_in (Some peer) ≡ false → m.round.turn ≡ from → m.round.fighting ≡ busy
-      → IsFirstDue busy slots from n → IsTurn n (command_of peer) m
-  turn_of n m slots seats peer seat from busy standing at may other turn fights first =
-      let s = m.sessions n in
-      let due = may_serve_now busy n peer may in
-      let earlier : (p : ℕ) → ComesBefore m.round.turn p n → MayBeServed m p → ⊥ =
-      λ p before may. nobody_may busy m p (peer_at slots p) (seat_at seats p) (standing p) fights (first.before p (subst (λ k. ComesBefore k p n) turn before)) may in record {
-        in_turn = λ reader. in_turn peer s.came s.done due.0 other reader (at.reads reader);
-        goes_on = not_over s peer at due.0;
-        beside = subst (λ b. IsBeside b n s) (sym fights) (beside_at busy n s peer at due.0 due.1);
-        first = earlier;
-      }
-
--- what is known of the peer whose turn it is: what was made of it, of its seat, and of the turn
-record IsServing {D A : Type 0} (R : Peer A → Peer A → Type 0) (f : Seat → Seat) (n : ℕ) (was : PeersNow A) (new : Slots A) (seats : Seats) (turn : ℕ) (judge : Judged D) : Type 0 where
-  pub one : ServesOne R n was.slots was.turn judge new turn
-  pub under_way : was.under_way ≡ judge.under_way
-  pub serves : SeatMoves f n was.seats seats
-
--- the peer, its seat, and what they are after it
-record IsThere {D A : Type 0} (R : Peer A → Peer A → Type 0) (f : Seat → Seat) (n : ℕ) (new : Slots A) (seats : Seats) (m : Moment D) : Type 0 where
-  pub peer : Peer A
-  pub seat : Seat
-  pub next : Peer A
-  pub due : is_due_in (Some peer) ≡ true
-  pub other : asks_in (Some peer) ≡ false
-  pub moved : R peer next
-  pub slot_is : peer_at new n ≡ Some next
-  pub seat_is : seat_at seats n ≡ Some (f seat)
-  pub stands : StandsAt (m.sessions n) (Some peer) (Some seat)
-  pub turn : IsTurn n (command_of peer) m
-
-module _ {D A : Type 0} (facts : DeviceFacts D) (R : Peer A → Peer A → Type 0) (f : Seat → Seat) (m : Moment D) (n : ℕ) (was : PeersNow A) (new : Slots A) (seats : Seats) (turn : ℕ) (judge : Judged D)
-    (standing : AreStanding m.sessions was.slots was.seats) (is : IsServing R f n was new seats turn judge) where
-  there_in : (slot : Option (Peer A)) (seat : Option Seat) → IsRound m.round was → peer_at was.slots n ≡ slot → seat_at was.seats n ≡ seat → may_serve_in (fighting judge.under_way) n slot ≡ true
-      → asks_in slot ≡ false → StandsAt (m.sessions n) slot seat → IsThere R f n new seats m
-  there_in None seat round slot_is seat_is may other stands = absurd (true≢false (sym may))
-  there_in (Some peer) None round slot_is seat_is may other stands = absurd stands
-  there_in (Some peer) (Some seat) round slot_is seat_is may other stands =
-      let moved : Moves R (Some peer) (peer_at new n) = subst (λ slot. Moves R slot (peer_at new n)) slot_is is.one.moves.at in record {
-        peer = peer;
-        seat = seat;
-        next = moved.0;
-        due = (may_serve_now (fighting judge.under_way) n peer may).0;
-        other = other;
-        moved = moved.2;
-        slot_is = moved.1;
-        seat_is = is.serves.at ∙ ap (λ (x : Option Seat). seat_map f x) seat_is;
-        stands = stands;
-        turn = turn_of facts n m was.slots was.seats peer seat was.turn (fighting judge.under_way) standing stands.0 may other round.turn (round.fighting ∙ ap fighting is.under_way) is.one.first;
-      }
-
-  there : IsRound m.round was → IsThere R f n new seats m
-  there round = there_in (peer_at was.slots n) (seat_at was.seats n) round refl refl is.one.first.due is.one.taken (standing n)
-
-  -- the peer and its seat stand so, and all else as before
-  after : (s : Session) → (at : IsThere R f n new seats m) → StandsAt s (Some at.next) (Some (f at.seat)) → AreStanding (instead m.sessions n s) new seats
-  after s at stands =
-      standing_with m.sessions n s was.slots new was.seats seats is.one.moves.only is.serves.only
-      (at_both s (peer_at new n) (Some at.next) (seat_at seats n) (Some (f at.seat)) at.slot_is at.seat_is stands) standing
-
-  -- the session is as it was, and so is all else
-  stays_standing : (at : IsThere R f n new seats m) → StandsAt (m.sessions n) (Some at.next) (Some (f at.seat)) → AreStanding m.sessions new seats
-  stays_standing at stands = λ p.
-      elim (cases_eq p n) [
-        | inl here ↦ subst (λ q. StandsAt (m.sessions q) (peer_at new q) (seat_at seats q)) (sym here)
-            (at_both (m.sessions n) (peer_at new n) (Some at.next) (seat_at seats n) (Some (f at.seat)) at.slot_is at.seat_is stands)
-        | inr other ↦ at_both (m.sessions p) (peer_at new p) (peer_at was.slots p) (seat_at seats p) (seat_at was.seats p) (is.one.moves.only.others p other) (is.serves.only.others p other) (standing p)
-      ]
+use Rattle.std.proofs.Common.{◌≡◌, ℕ, ◌+◌, true, false, true≢false, length, List, [], ◌∷◌, Option, None, Some, IsSome, refl, sym, ap, subst, ◌∙◌}
+use Rattle.sector_disk.specs.Facts.{DeviceFacts}
+use Rattle.hill_store.specs.Seen.{Assembled, MayBeSpent, Seen}
+use Rattle.koth_protocol.specs.Commands.{Command, kept_source}
+use Rattle.koth_session.{specs.{Sessions.{AreServed, IsLeftOff}, Transcript.{answer, command_in}}, proofs.{Answering.submit_due, Fights.may_serve_now, Holding.keeps_cut}}
+use Rattle.koth_session.specs.{Judge.{Fight, Judged, fighting, without}, Peer.{IsFull, command_of}}
+use Rattle.koth_session.specs.Peers.{IsOfOne, IsServed, IsStepped, ServesNext, ServesOne, Slots, asks_in, may_serve_in, peer_at, step_after}
+use Rattle.koth_session.{specs.declared.{end.PeerEnd.PeerEnd, peer.Peer.Peer, peers.Step.Step}, proofs.Steps.same_store}
+use Rattle.koth_service.specs.{Noted.Noted, Seats.{SeatMoves, Seats, seat_at, seat_map, seat_served}, Session.{session_answered, session_over}}
+use Rattle.koth_service.specs.{Moment.{Happening, Moment, Start, moment, other_than, round_after}, History.{Answers, Breaks, Fights, HasNoRoom, MayDisconnect, Shows, Stops}}
+use Rattle.koth_service.specs.Standing.{AreStanding, CameToBe, GoesOn, IsCutOff, IsRound, PeersNow, StandsAt, fought_to, over_by}
+use Rattle.koth_service.{specs.declared.{connections.Stage.Stage, host.HowEnded.HowEnded, seats.Seat.Seat}, proofs.{Moments.only_seats, Stages.{came_to_be, fighting_without, safe_on}}}
+use Rattle.koth_service.proofs.{Causes.asks, Turns.{IsServing, IsThere, after, stays_standing, there, turn_by}, Outcomes.{answered_at, ended_at, safe_answered, stepped_at}}
 
 -- a command was carried out, or ended a session
 abbrev ServedBy : {D A : Type 0} → DeviceFacts D → Option ℕ → Option PeerEnd → ℕ → Judged D → Judged D → Peer A → Peer A → Type 0
@@ -322,19 +174,6 @@ module _ {S D A : Type 0} (happened : S → List Noted → Type 0) (facts : Devi
       cut_by n was new seats turn judge now on (serving (Some PeerEnd.StoreFailed) n was new seats turn judge now same on serves seat) of_one
 
   -- a submission was begun, or fought on
-  stepped_at : (n : ℕ) (s : Session) (peer next : Peer A) (seat : Seat) (judge now : Judged D) → IsStepped n peer judge next now → StandsAt s (Some peer) (Some seat) → StandsAt s (Some next) (Some seat)
-  stepped_at n s peer next seat judge now is stands =
-      let was = stands.0 in (
-        record {
-          reads = λ reader. same_peer peer next 0 s.came s.done is.stays reader (was.reads reader);
-          owed = ap (λ l. s.went ++ l) is.stays.unsent ∙ was.owed;
-          there = was.there;
-          over = was.over ∙ ap over_by (sym is.stays.end);
-          at_end = was.at_end ∙ sym is.stays.closed;
-        },
-        stands.1,
-      )
-
   pub stepped : (n : ℕ) (was : PeersNow A) (new : Slots A) (turn : ℕ) (judge now : Judged D) → was.under_way ≡ judge.under_way
       → ServesNext facts (Some steps) (Step.Stepped n) was.slots was.turn judge new turn now → IsOfOne now.store.hill.settings new now.under_way
       → GoesOn happened facts shows start sockets was browsers judge.store

@@ -1,16 +1,18 @@
 -- How a history goes on by what happens on the sockets.
-use Rattle.std.proofs.Common.{◌≡◌, ◌≢◌, ◌∙◌, ◌==◌, ℕ, ◌+◌, ◌<◌, ◌≤◌, Bool, true, true≢false, false, ap, arith, length, max, List, [], ◌∷◌, take, Option, None, Some, IsSome, is_some, Ok, Err, refl, sym, subst}
-use Rattle.{sector_disk.specs.Facts.DeviceFacts, hill_store.specs.Seen.Seen, std.specs.declared.net.socket_addr.SocketAddr.SocketAddr}
-use Rattle.koth_session.{specs.Judge.{Fight, fighting, without}, proofs.Fights.{closes_still, of_moved, of_new, of_others, sends_still}}
-use Rattle.koth_session.specs.{Peer.{Closes, Sends, Takes}, Peers.{Connects, IsOfOne, MovesAt, OnlyAt, Slots, end_in, is_finished_in, may_come_at, may_come_in, peer_at, unsent_at, unsent_in}}
-use Rattle.koth_session.specs.declared.{peer.Peer.Peer, peers.{NotConnected.NotConnected, Step.Step}}
-use Rattle.koth_service.specs.{Noted.{Adds, Noted, Stays}, Seats.{OnlySeat, SeatMoves, Seats, seat_at, seat_drained, seat_heard, seat_new, seat_told}}
-use Rattle.koth_service.specs.Session.{Session, session_lost}
-use Rattle.koth_service.specs.{Moment.{Happening, Moment, Start, beginning, ended_in, moment, noted, other_than}, History.{MayDisconnect, OpensAgain, Reopens, Shows}}
-use Rattle.koth_service.specs.Standing.{AwaitedIn, GoesOn, IsAtStage, IsCutOff, IsReopened, IsSoundAfter, PeersNow, StandsAfter, StandsAt, moved_to, peers_of, served_to, timed_to}
-use Rattle.koth_service.specs.declared.{connections.Stage.Stage, desk.Desk.Desk, host.HowEnded.HowEnded, seats.{Draining.Draining, Seat.Seat}}
-use Rattle.koth_service.proofs.{Causes.{finished_at, not_silent}, Stages.{came_to_be, fighting_without, safe_anew, safe_on}}
-use Rattle.koth_service.proofs.Moments.{few_from, free_at, instead_same, owed_to, standing_came, standing_closed, standing_drained, standing_left, standing_lost, standing_new, standing_shut, standing_went, there_at}
+use Rattle.std.proofs.Common.{◌≡◌, ◌≢◌, ◌∙◌, ◌==◌, ℕ, ◌+◌, ◌<◌, ◌≤◌, Bool, true, true≢false, false, ap, arith, length, max, List, [], ◌∷◌, take, Option, None, Some, IsSome, is_some, Ok, Err}
+use Rattle.std.{proofs.Common.{refl, sym, subst}, specs.declared.net.socket_addr.SocketAddr.SocketAddr}
+use Rattle.sector_disk.specs.Facts.{DeviceFacts}
+use Rattle.hill_store.specs.Seen.{Seen}
+use Rattle.koth_session.{specs.{Judge.{Fight, fighting, without}, Peer.{Closes, Sends, Takes}}, proofs.Fights.{closes_still, of_moved, of_new, of_others, sends_still}}
+use Rattle.koth_session.specs.Peers.{Connects, IsOfOne, MovesAt, OnlyAt, Slots, end_in, is_finished_in, may_come_at, may_come_in, peer_at, unsent_at, unsent_in}
+use Rattle.koth_session.specs.declared.peers.NotConnected.{NotConnected}
+use Rattle.koth_service.specs.{Noted.{Adds, Noted, Stays}, Seats.{OnlySeat, SeatMoves, Seats, seat_at, seat_drained, seat_heard, seat_new, seat_told}, Session.{Session, session_lost}}
+use Rattle.koth_service.specs.{Moment.{Happening, Start, ended_in, moment, noted, other_than}, History.{MayDisconnect, Shows}}
+use Rattle.koth_service.specs.Standing.{AwaitedIn, GoesOn, PeersNow, moved_to, served_to, timed_to}
+use Rattle.koth_service.{specs.declared.{connections.Stage.Stage, host.HowEnded.HowEnded, seats.{Draining.Draining, Seat.Seat}}, proofs.{Due.finished_at, Causes.not_silent}}
+use Rattle.koth_service.proofs.Stages.{came_to_be, fighting_without, safe_on}
+use Rattle.koth_service.proofs.Moments.{few_from, free_at, instead_same, owed_to, standing_came, standing_closed, standing_drained, standing_left, standing_lost, standing_new, standing_shut}
+use Rattle.koth_service.proofs.Moments.{standing_went, there_at}
 
 -- answers that there are
 pub some_unsent : (read unsent : List ℕ) (empty : Bool) → read ≡ unsent → empty ≡ (length read == 0) → empty ≡ false → unsent ≢ []
@@ -267,52 +269,3 @@ module _ {S D A : Type 0} (happened : S → List Noted → Type 0) (facts : Devi
             (subst (λ (s : Seen D). IsOfOne s.hill.settings now.slots now.under_way) (sym same) others),
         safe_on on.2,
       )
-
-  -- ---- the beginning, and a hill that was opened again
-
-  pub begun : (sockets : S) (peers : PeersNow A) → ((p : ℕ) → peer_at peers.slots p ≡ None) → ((p : ℕ) → seat_at peers.seats p ≡ None) → ((p : ℕ) → browsers p ≡ None)
-      → peers.ended ≡ 0 → peers.turn ≡ 0 → peers.under_way ≡ None → peers.clock ≡ 0 → peers.read_at ≡ 0 → length peers.slots ≡ start.most → length peers.seats ≡ length peers.slots
-      → start.store.reopen ≡ false → happened sockets [] → GoesOn happened facts shows start sockets peers browsers start.store
-  begun sockets peers nobody empty nobody_visits no_ended turn under_way clock read_at places seats sound none =
-      let counts : peers.ended ≤ 0 = omega (arith, no_ended) in
-      let m : Moment D = beginning start.store in (
-        [],
-        came_to_be none tt
-            (λ p. subst (λ (slot : Option (Peer A)). StandsAt (m.sessions p) slot (seat_at peers.seats p)) (sym (nobody p))
-            (subst (λ (seat : Option Seat). StandsAt {A = A} (m.sessions p) None seat) (sym (empty p)) refl))
-            (λ p. subst (λ (stage : Option (Stage A)). IsAtStage (m.browsers p) stage) (sym (nobody_visits p)) refl) refl places (seats ∙ places) counts
-            (record { clock = sym clock; read_at = sym read_at; turn = sym turn; fighting = sym (ap fighting under_way) })
-            (subst (λ (u : Option Fight). IsOfOne start.store.hill.settings peers.slots u) (sym under_way) tt),
-        safe_anew facts m.sessions m.browsers m.round start.store sound,
-      )
-
-  -- the desk that is sound again goes on
-  opened_again : (old new : Desk D A) (sockets : S) → IsReopened facts old new → IsCutOff happened facts shows start sockets (peers_of old) browsers old.judge.store
-      → GoesOn happened facts shows start sockets (peers_of old) browsers new.judge.store
-  opened_again old new sockets is cut =
-      let before = cut.1 in
-      let m : Moment D = moment start cut.0 in
-      let reopens : Reopens facts new.judge.store m = record {
-        failed = ap (λ (s : Seen D). s.reopen) before.now_is ∙ cut.2;
-        open_now = is.open_now;
-        again = subst (λ (s : Seen D). OpensAgain facts s.device new.judge.store) (sym before.now_is) is.again;
-      } in (
-        Happening.Reopened new.judge.store ∷ cut.0,
-        came_to_be before.logged (reopens, before.follows) before.standing before.visiting refl before.places before.seats before.ended before.round
-            (subst (λ (u : Option Fight). IsOfOne new.judge.store.hill.settings old.peers.slots.items u) (sym cut.3) tt),
-        safe_anew facts m.sessions m.browsers m.round new.judge.store is.open_now,
-      )
-
-  -- the desk is the same
-  same_desk : (old new : Desk D A) (sockets : S) → new ≡ old → GoesOn happened facts shows start sockets (peers_of old) browsers old.judge.store
-      → GoesOn happened facts shows start sockets (peers_of new) browsers new.judge.store
-  same_desk old new sockets same on = subst (λ (desk : Desk D A). GoesOn happened facts shows start sockets (peers_of desk) browsers desk.judge.store) (sym same) on
-
-  pub sound_after : (step : Step) (old new : Desk D A) (sockets : S) → IsSoundAfter facts step old new
-      → StandsAfter happened facts shows step start sockets (peers_of old) browsers old.judge.store → GoesOn happened facts shows start sockets (peers_of new) browsers new.judge.store
-  sound_after Step.Nobody old new sockets same on = same_desk old new sockets same on
-  sound_after (Step.Served n) old new sockets same on = same_desk old new sockets same on
-  sound_after (Step.Stepped n) old new sockets same on = same_desk old new sockets same on
-  sound_after (Step.Asked n) old new sockets same on = same_desk old new sockets same on
-  sound_after (Step.StoreFailed n) old new sockets is cut =
-      subst (λ (peers : PeersNow A). GoesOn happened facts shows start sockets peers browsers new.judge.store) (sym (is.peers cut.3)) (opened_again old new sockets is cut)

@@ -1,5 +1,5 @@
 -- Round after round.
-use Rattle.{std.proofs.Common.refl, koth_service.specs.{Connections.stage_at, Standing.{peers_of, start_at}}, koth_service.proofs.{Ends.{so_far_after, so_far_done, so_far_failed}, Steps.{begun, sound_after}, Told.{grows_on, stays}}}
+use Rattle.{std.proofs.Common.refl, koth_service.specs.{Connections.stage_at, Standing.{peers_of, start_at}}, koth_service.proofs.{Ends.{so_far_after, so_far_done, so_far_failed}, Openings.{begun, sound_after}, Told.{grows_on, stays}}}
 use Rattle.koth_service.proofs.service.serve_rounds.Goals as goal
 
 pub loop-round-init : goal.loop-round-init

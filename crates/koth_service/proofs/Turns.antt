@@ -1,0 +1,188 @@
+-- Whose turn it is, by how the peers and their seats stand.
+use Rattle.std.proofs.Common.{◌≡◌, inl, inr, ℕ, ◌+◌, Bool, true, false, true≢false, List, [], ◌∷◌, ◌++◌, Option, None, Some, refl, sym, ap, subst, ◌∙◌, append_assoc, ◌⊎◌, ◌==◌, ◌&&◌, ◌||◌}
+use Rattle.std.proofs.{Common.{not, if◌then◌else◌}, lemmas.{Bool.{cases_eq, Decides.eqb_tells}, List.append_cancel_left}}
+use Rattle.sector_disk.specs.Facts.{DeviceFacts}
+use Rattle.koth_protocol.specs.{Commands.{Command, Reader, commands_read, kept_source}, declared.script.Met.Met}
+use Rattle.koth_session.{proofs.{Answering.submit_due, Fights.may_serve_now}, specs.{Inbox.{IsTaken, is_met, is_request, is_submission}, Judge.{Judged, fighting, without}}}
+use Rattle.koth_session.specs.Peer.{HasRead, IsPeer, command_due, command_of, is_due, is_due_now, submits_now}
+use Rattle.koth_session.specs.Peers.{ComesBefore, IsFirstDue, Moves, ServesOne, Slots, asks_in, is_due_in, may_serve_in, peer_at, is_beside}
+use Rattle.koth_session.{specs.declared.{end.PeerEnd.PeerEnd, inbox.Inbox.Inbox, peer.Peer.Peer}, proofs.Standing.{behind_met, those_came}}
+use Rattle.koth_service.specs.{Seats.{SeatMoves, Seats, seat_at, seat_map}, Session.Session, Moment.{Moment, instead}, History.{Begins, IsBeside, IsTurn, MayBeServed, SubmitsNothing}}
+use Rattle.koth_service.{specs.{Standing.{AreStanding, IsRound, PeersNow, Stands, StandsAt}, declared.seats.Seat.Seat}, proofs.Moments.{at_both, standing_with}}
+use Rattle.koth_service.proofs.Due.{goes_on_by, idle, is_met_then, not_over}
+
+-- ---- truth values and lists
+
+not_true : (b : Bool) → not b ≡ true → b ≡ false
+not_true true is = sym is
+not_true false is = refl
+
+or_true : (b : Bool) → (b || true) ≡ true
+or_true true = refl
+or_true false = refl
+
+one_false : (a b : Bool) → (a && b) ≡ false → (a ≡ false) ⊎ ((a ≡ true) × (b ≡ false))
+one_false true b is = inr (refl, is)
+one_false false b is = inl refl
+
+same_head : (a b : Command) (xs ys : List Command) → a ∷ xs ≡ b ∷ ys → a ≡ b
+same_head a b xs ys is = cc
+
+not_submitted : (m : Met) (bytes source : List ℕ) → is_submission m ≡ false → command_due m bytes ≡ Command.Submit source → ⊥
+not_submitted Met.Nothing bytes source is same = absurd (cc)
+not_submitted Met.Submit bytes source is same = true≢false is
+not_submitted Met.Show bytes source is same = absurd (cc)
+not_submitted Met.Quit bytes source is same = absurd (cc)
+not_submitted Met.Request bytes source is same = absurd (cc)
+not_submitted Met.Bad bytes source is same = absurd (cc)
+
+-- the turn may not come to it
+not_beside : (busy : Option ℕ) (n : ℕ) (s : Session) (submits : Bool) → is_beside busy n submits ≡ false → (submits ≡ true → SubmitsNothing s → ⊥) → IsBeside busy n s → ⊥
+not_beside None n s submits is some beside = true≢false is
+not_beside (Some k) n s true is some (inl same) =
+    elim (eqb_tells n k) [ inl equal ↦ true≢false (sym (ap (λ b. b || false) equal.0) ∙ is) | inr differ ↦ differ.1 same ]
+not_beside (Some k) n s true is some (inr nothing) = some refl nothing
+not_beside (Some k) n s false is some beside = true≢false (sym (or_true (n == k)) ∙ is)
+
+module _ {A : Type 0} where
+  -- the command that is due is the next one in what came
+  next_due : (s : Session) (peer : Peer A) → Stands s peer → is_due_now peer ≡ true
+      → (behind : List Command) × (commands_read Reader.Session s.came ≡ s.done ++ command_of peer ∷ behind)
+  next_due s peer stands due =
+      let those = those_came Reader.Session peer.inbox s.came s.done (goes_on_by Reader.Session s peer stands due) in
+      let here = behind_met Reader.Session peer.inbox.due peer.inbox.script.source those.0 (is_met_then peer.end (is_met peer.inbox.due) due) tt in
+      (here.0, those.1 ∙ ap (λ l. s.done ++ l) here.1)
+
+  -- a peer with a submission that is due, and one without
+  submits_some : (s : Session) (peer : Peer A) → Stands s peer → is_due_now peer ≡ true → submits_now peer ≡ true → SubmitsNothing s → ⊥
+  submits_some s peer stands due submits nothing =
+      let bytes = kept_source peer.inbox.script.source in
+      let next = next_due s peer stands due in
+      let command : Command.Submit bytes ≡ command_of peer = submit_due peer.inbox.due bytes submits in
+      nothing bytes (next.0, next.1 ∙ ap (λ (k : Command). s.done ++ k ∷ next.0) (sym command) ∙ sym (append_assoc s.done (Command.Submit bytes ∷ []) next.0))
+
+  submits_none : (s : Session) (peer : Peer A) → Stands s peer → is_due_now peer ≡ true → submits_now peer ≡ false → SubmitsNothing s
+  submits_none s peer stands due other source begins =
+      let next = next_due s peer stands due in
+      let same : command_of peer ∷ next.0 ≡ Command.Submit source ∷ begins.0 =
+      append_cancel_left s.done (command_of peer ∷ next.0) (Command.Submit source ∷ begins.0) (sym next.1 ∙ begins.1 ∙ append_assoc s.done (Command.Submit source ∷ []) begins.0) in
+      not_submitted peer.inbox.due (kept_source peer.inbox.script.source) source other (same_head (command_of peer) (Command.Submit source) next.0 begins.0 same)
+
+  -- the turn may come to it
+  pub beside_at : (busy : Option ℕ) (n : ℕ) (s : Session) (peer : Peer A) → Stands s peer → is_due_now peer ≡ true → is_beside busy n (submits_now peer) ≡ true → IsBeside busy n s
+  beside_at None n s peer stands due is = tt
+  beside_at (Some k) n s peer stands due is =
+      elim (eqb_tells n k) [
+        | inl same ↦ inl same.1
+        | inr differ ↦ inr (submits_none s peer stands due (not_true (submits_now peer) (sym (ap (λ b. b || not (submits_now peer)) differ.0) ∙ is)))
+      ]
+
+  pub nobody_may : {D : Type 0} (busy : Option ℕ) (m : Moment D) (p : ℕ) (slot : Option (Peer A)) (seat : Option Seat) → StandsAt (m.sessions p) slot seat → m.round.fighting ≡ busy
+      → may_serve_in busy p slot ≡ false → MayBeServed m p → ⊥
+  nobody_may busy m p None None stands same never may = true≢false (sym may.0 ∙ stands)
+  nobody_may busy m p None (Some seat) stands same never may = absurd stands
+  nobody_may busy m p (Some peer) None stands same never may = absurd stands
+  nobody_may busy m p (Some peer) (Some seat) stands same never may =
+      let s = m.sessions p in
+      elim (one_false (is_due_now peer) (is_beside busy p (submits_now peer)) never) [
+        | inl none ↦ may.1 (idle s peer stands.0 none)
+        | inr late ↦ not_beside busy p s (submits_now peer) late.1 (λ submits nothing. submits_some s peer stands.0 late.0 submits nothing)
+            (subst (λ b. IsBeside b p s) same may.2)
+      ]
+
+-- ---- the command that is due is the next one in what came, if it is no browser's request
+
+pub taken_by : (reader : Reader) (m : Met) → is_request m ≡ false → IsTaken reader m
+taken_by Reader.Session m other = tt
+taken_by Reader.Service m other = other
+
+module _ {A : Type 0} where
+  in_turn_at : (end : Option PeerEnd) (inbox : Inbox A) (closed : Bool) (came : List ℕ) (done : List Command) → is_due end (is_met inbox.due) ≡ true
+      → is_request inbox.due ≡ false → (reader : Reader) → HasRead reader end inbox closed came done
+      → Begins (done ++ command_due inbox.due (kept_source inbox.script.source) ∷ []) (commands_read reader came)
+  in_turn_at (Some end) inbox closed came done due other reader read = absurd (true≢false (sym due))
+  in_turn_at None inbox closed came done due other reader read =
+      let those = those_came reader inbox came done read.0 in
+      let here = behind_met reader inbox.due inbox.script.source those.0 due (taken_by reader inbox.due other) in
+      let command = command_due inbox.due (kept_source inbox.script.source) in
+      (here.0, those.1 ∙ ap (λ l. done ++ l) here.1 ∙ sym (append_assoc done (command ∷ []) here.0))
+
+  in_turn : (peer : Peer A) (came : List ℕ) (done : List Command) → is_due_in (Some peer) ≡ true → asks_in (Some peer) ≡ false
+      → (reader : Reader) → IsPeer reader peer came done → Begins (done ++ command_of peer ∷ []) (commands_read reader came)
+  in_turn peer came done due other reader is = in_turn_at peer.end peer.inbox peer.closed came done due other reader is.has_read
+
+pub turn_by : {D : Type 0} (n : ℕ) (m : Moment D) (one other : Command) → one ≡ other → IsTurn n one m → IsTurn n other m
+turn_by n m one other is turn = subst (λ (k : Command). IsTurn n k m) is turn
+
+module _ {D A : Type 0} (facts : DeviceFacts D) where
+  -- it is this peer's turn
+  pub turn_of : (n : ℕ) (m : Moment D) (slots : Slots A) (seats : Seats) (peer : Peer A) (seat : Seat) (from : ℕ) (busy : Option ℕ) → ((p : ℕ) → StandsAt (m.sessions p) (peer_at slots p) (seat_at seats p))
+      → Stands (m.sessions n) peer → may_serve_in busy n (Some peer) ≡ true → asks_in (Some peer) ≡ false → m.round.turn ≡ from → m.round.fighting ≡ busy
+      → IsFirstDue busy slots from n → IsTurn n (command_of peer) m
+  turn_of n m slots seats peer seat from busy standing at may other turn fights first =
+      let s = m.sessions n in
+      let due = may_serve_now busy n peer may in
+      let earlier : (p : ℕ) → ComesBefore m.round.turn p n → MayBeServed m p → ⊥ =
+      λ p before may. nobody_may busy m p (peer_at slots p) (seat_at seats p) (standing p) fights (first.before p (subst (λ k. ComesBefore k p n) turn before)) may in record {
+        in_turn = λ reader. in_turn peer s.came s.done due.0 other reader (at.reads reader);
+        goes_on = not_over s peer at due.0;
+        beside = subst (λ b. IsBeside b n s) (sym fights) (beside_at busy n s peer at due.0 due.1);
+        first = earlier;
+      }
+
+-- what is known of the peer whose turn it is: what was made of it, of its seat, and of the turn
+pub record IsServing {D A : Type 0} (R : Peer A → Peer A → Type 0) (f : Seat → Seat) (n : ℕ) (was : PeersNow A) (new : Slots A) (seats : Seats) (turn : ℕ) (judge : Judged D) : Type 0 where
+  pub one : ServesOne R n was.slots was.turn judge new turn
+  pub under_way : was.under_way ≡ judge.under_way
+  pub serves : SeatMoves f n was.seats seats
+
+-- the peer, its seat, and what they are after it
+pub record IsThere {D A : Type 0} (R : Peer A → Peer A → Type 0) (f : Seat → Seat) (n : ℕ) (new : Slots A) (seats : Seats) (m : Moment D) : Type 0 where
+  pub peer : Peer A
+  pub seat : Seat
+  pub next : Peer A
+  pub due : is_due_in (Some peer) ≡ true
+  pub other : asks_in (Some peer) ≡ false
+  pub moved : R peer next
+  pub slot_is : peer_at new n ≡ Some next
+  pub seat_is : seat_at seats n ≡ Some (f seat)
+  pub stands : StandsAt (m.sessions n) (Some peer) (Some seat)
+  pub turn : IsTurn n (command_of peer) m
+
+module _ {D A : Type 0} (facts : DeviceFacts D) (R : Peer A → Peer A → Type 0) (f : Seat → Seat) (m : Moment D) (n : ℕ) (was : PeersNow A) (new : Slots A) (seats : Seats) (turn : ℕ) (judge : Judged D)
+    (standing : AreStanding m.sessions was.slots was.seats) (is : IsServing R f n was new seats turn judge) where
+  there_in : (slot : Option (Peer A)) (seat : Option Seat) → IsRound m.round was → peer_at was.slots n ≡ slot → seat_at was.seats n ≡ seat → may_serve_in (fighting judge.under_way) n slot ≡ true
+      → asks_in slot ≡ false → StandsAt (m.sessions n) slot seat → IsThere R f n new seats m
+  there_in None seat round slot_is seat_is may other stands = absurd (true≢false (sym may))
+  there_in (Some peer) None round slot_is seat_is may other stands = absurd stands
+  there_in (Some peer) (Some seat) round slot_is seat_is may other stands =
+      let moved : Moves R (Some peer) (peer_at new n) = subst (λ slot. Moves R slot (peer_at new n)) slot_is is.one.moves.at in record {
+        peer = peer;
+        seat = seat;
+        next = moved.0;
+        due = (may_serve_now (fighting judge.under_way) n peer may).0;
+        other = other;
+        moved = moved.2;
+        slot_is = moved.1;
+        seat_is = is.serves.at ∙ ap (λ (x : Option Seat). seat_map f x) seat_is;
+        stands = stands;
+        turn = turn_of facts n m was.slots was.seats peer seat was.turn (fighting judge.under_way) standing stands.0 may other round.turn (round.fighting ∙ ap fighting is.under_way) is.one.first;
+      }
+
+  pub there : IsRound m.round was → IsThere R f n new seats m
+  there round = there_in (peer_at was.slots n) (seat_at was.seats n) round refl refl is.one.first.due is.one.taken (standing n)
+
+  -- the peer and its seat stand so, and all else as before
+  pub after : (s : Session) → (at : IsThere R f n new seats m) → StandsAt s (Some at.next) (Some (f at.seat)) → AreStanding (instead m.sessions n s) new seats
+  after s at stands =
+      standing_with m.sessions n s was.slots new was.seats seats is.one.moves.only is.serves.only
+      (at_both s (peer_at new n) (Some at.next) (seat_at seats n) (Some (f at.seat)) at.slot_is at.seat_is stands) standing
+
+  -- the session is as it was, and so is all else
+  pub stays_standing : (at : IsThere R f n new seats m) → StandsAt (m.sessions n) (Some at.next) (Some (f at.seat)) → AreStanding m.sessions new seats
+  stays_standing at stands = λ p.
+      elim (cases_eq p n) [
+        | inl here ↦ subst (λ q. StandsAt (m.sessions q) (peer_at new q) (seat_at seats q)) (sym here)
+            (at_both (m.sessions n) (peer_at new n) (Some at.next) (seat_at seats n) (Some (f at.seat)) at.slot_is at.seat_is stands)
+        | inr other ↦ at_both (m.sessions p) (peer_at new p) (peer_at was.slots p) (seat_at seats p) (seat_at was.seats p) (is.one.moves.only.others p other) (is.serves.only.others p other) (standing p)
+      ]
