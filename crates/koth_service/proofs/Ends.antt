@@ -41,6 +41,7 @@ module _ {S D A : Type 0} (happened : S → List Noted → Type 0) (facts : Devi
   so_far_after connections fault Step.Nobody sockets peers store on = so_far_failed connections fault sockets peers store on
   so_far_after connections fault (Step.Served n) sockets peers store on = so_far_failed connections fault sockets peers store on
   so_far_after connections fault (Step.Stepped n) sockets peers store on = so_far_failed connections fault sockets peers store on
+  so_far_after connections fault (Step.PutOff n) sockets peers store on = so_far_failed connections fault sockets peers store on
   so_far_after connections fault (Step.Asked n) sockets peers store on = so_far_failed connections fault sockets peers store on
   so_far_after connections fault (Step.StoreFailed n) sockets peers store cut = (cut.0, so_far connections (Err fault) sockets peers store cut.0 cut.1 tt)
 

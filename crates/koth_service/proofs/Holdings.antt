@@ -85,6 +85,7 @@ module _ {D : Type 0} (facts : DeviceFacts D) (s : RawSettings) where
         let opened = reopened_holds held.found held.more new (moment start older) follows held.holds in
         record { found = opened.0; more = None; counts = (held.found, held.more, held.counts, opened.1, refl); holds = opened.2 }
     held_next (Happening.Stopped n end) older follows held = record { found = held.found; more = held.more; counts = held.counts; holds = held.holds }
+    held_next (Happening.PutOff n source) older follows held = record { found = held.found; more = held.more; counts = held.counts; holds = held.holds }
     held_next (Happening.Stepped n source) older follows held = record { found = held.found; more = held.more; counts = held.counts; holds = held.holds }
     held_next (Happening.Disconnected n how) older follows held = record { found = held.found; more = held.more; counts = held.counts; holds = held.holds }
     held_next (Happening.Replied n reply) older follows held = record { found = held.found; more = held.more; counts = held.counts; holds = held.holds }

@@ -67,6 +67,9 @@ module _ {D : Type 0} (facts : DeviceFacts D) (s : RawSettings) where
     lived (Happening.Stepped n source ∷ older) holding is =
         let rest = lived older holding is.1 in
         record { events = rest.events; are = rest.are; goes = rest.goes; sized = rest.sized }
+    lived (Happening.PutOff n source ∷ older) holding is =
+        let rest = lived older holding is.1 in
+        record { events = rest.events; are = rest.are; goes = rest.goes; sized = rest.sized }
     lived (Happening.Disconnected n how ∷ older) holding is =
         let rest = lived older holding is.1 in
         record { events = rest.events; are = rest.are; goes = rest.goes; sized = rest.sized }

@@ -88,6 +88,7 @@ module _ {A : Type 0} where
           owed = ap (λ l. s.went ++ l) takes.unsent ∙ was.owed;
           there = was.there;
           over = was.over ∙ sym (over_settled peer.end (is_met moves.0.inbox.due) moves.0.inbox.taken moves.0.closed) ∙ ap over_by (sym takes.end);
+          waits = was.waits ∙ sym takes.waits;
           at_end = was.at_end ∙ sym takes.closed;
         },
         record {
@@ -121,6 +122,7 @@ module _ {A : Type 0} where
           owed = ap (λ l. s.went ++ l) closes.unsent ∙ was.owed;
           there = was.there;
           over = was.over ∙ sym (over_settled peer.end (is_met moves.0.inbox.due) moves.0.inbox.taken moves.0.closed) ∙ ap over_by (sym closes.end);
+          waits = was.waits ∙ sym closes.waits;
           at_end = sym closes.closed;
         },
         record { active = of.active; useful = of.useful; spoken = of.spoken; shut = of.shut },
@@ -158,6 +160,7 @@ module _ {A : Type 0} where
           owed = all;
           there = was.there;
           over = was.over ∙ ap over_by (sym sends.end);
+          waits = was.waits ∙ sym sends.waits;
           at_end = was.at_end ∙ sym sends.closed;
         },
         record { active = refl; useful = of.useful; spoken = of.spoken; shut = of.shut },
@@ -192,7 +195,7 @@ module _ {A : Type 0} where
   standing_new sessions n time peer address old new seats now only places there sits fresh standing =
       standing_with sessions n (session_anew true time) old new seats now only places
       (at_both (session_anew true time) (peer_at new n) (Some peer) (seat_at now n) (Some (seat_new address time)) there sits (
-        record { reads = fresh.begins; owed = fresh.unsent; there = refl; over = ap over_by (sym fresh.goes_on); at_end = sym fresh.open_still },
+        record { reads = fresh.begins; owed = fresh.unsent; there = refl; over = ap over_by (sym fresh.goes_on); waits = sym fresh.waits; at_end = sym fresh.open_still },
         record { active = refl; useful = refl; spoken = refl; shut = λ is. absurd (true≢false (sym is)) },
       )) standing
 
@@ -203,7 +206,7 @@ module _ {A : Type 0} where
   lost_in s (Some peer) (Some seat) stands =
       let was = stands.0 in
       let of = stands.1 in (
-        record { reads = was.reads; owed = was.owed; there = was.there; over = was.over; at_end = was.at_end },
+        record { reads = was.reads; owed = was.owed; there = was.there; over = was.over; waits = was.waits; at_end = was.at_end },
         record { active = of.active; useful = of.useful; spoken = of.spoken; shut = of.shut },
       )
 
@@ -222,7 +225,7 @@ module _ {A : Type 0} where
       let was = stands.0 in
       let of = stands.1 in
       at_both (session_shut s) (Some peer) (Some peer) now (Some (seat_drained draining seat)) refl is (
-        record { reads = was.reads; owed = was.owed; there = was.there; over = was.over; at_end = was.at_end },
+        record { reads = was.reads; owed = was.owed; there = was.there; over = was.over; waits = was.waits; at_end = was.at_end },
         record { active = of.active; useful = of.useful; spoken = of.spoken; shut = λ is. refl },
       )
 

@@ -51,6 +51,7 @@ module _ {S D A : Type 0} (happened : S → List Noted → Type 0) (facts : Devi
   sound_after Step.Nobody old new sockets same on = same_desk old new sockets same on
   sound_after (Step.Served n) old new sockets same on = same_desk old new sockets same on
   sound_after (Step.Stepped n) old new sockets same on = same_desk old new sockets same on
+  sound_after (Step.PutOff n) old new sockets same on = same_desk old new sockets same on
   sound_after (Step.Asked n) old new sockets same on = same_desk old new sockets same on
   sound_after (Step.StoreFailed n) old new sockets is cut =
       subst (λ (peers : PeersNow A). GoesOn happened facts shows start sockets peers browsers new.judge.store) (sym (is.peers cut.3)) (opened_again old new sockets is cut)

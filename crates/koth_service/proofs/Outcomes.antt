@@ -4,8 +4,8 @@ use Rattle.sector_disk.specs.Facts.{DeviceFacts}
 use Rattle.hill_store.specs.Seen.{Seen}
 use Rattle.koth_protocol.specs.Commands.{Command}
 use Rattle.koth_session.{specs.{Sessions.AreServed, Transcript.{Exchange, answer, command_in}, Inbox.is_met, Judge.Judged}, proofs.{Exchanges.served_on, Holding.keeps_list}}
-use Rattle.koth_session.{specs.{Peer.{IsPeer, Serves, command_of}, Peers.{IsStepped, asks_in, is_due_in}, declared.{end.PeerEnd.PeerEnd, peer.Peer.Peer}}, proofs.Steps.same_unsent}
-use Rattle.koth_service.specs.{Seats.seat_served, Session.{Session, session_answered, session_over}, Moment.{Moment, answered}, History.IsSafe, Standing.{StandsAt, over_by}}
+use Rattle.koth_session.{specs.{Peer.{IsPeer, Serves, command_of}, Peers.{IsPutOff, IsStepped, asks_in, is_due_in}, declared.{end.PeerEnd.PeerEnd, peer.Peer.Peer}}, proofs.Steps.same_unsent}
+use Rattle.koth_service.specs.{Seats.seat_served, Session.{Session, session_answered, session_over, session_put_off}, Moment.{Moment, answered}, History.IsSafe, Standing.{StandsAt, over_by}}
 use Rattle.koth_service.{specs.declared.seats.Seat.Seat, proofs.{Moments.{over_settled, same_peer}, Due.not_over, Turns.taken_by}}
 
 -- ---- what a command makes of a moment
@@ -31,6 +31,7 @@ module _ {D A : Type 0} (facts : DeviceFacts D) where
           owed = ap (λ l. s.went ++ l) (same_unsent facts steps end (command_of peer) peer.outbox.unsent new.outbox.unsent store now serves.answers) ∙ was.owed;
           there = was.there;
           over = sym same ∙ ap over_by (sym serves.end);
+          waits = sym serves.waits;
           at_end = was.at_end ∙ sym serves.closed;
         },
         record { active = refl; useful = refl; spoken = of.spoken; shut = of.shut },
@@ -54,12 +55,13 @@ module _ {D A : Type 0} (facts : DeviceFacts D) where
           owed = all;
           there = was.there;
           over = not_over s peer was due ∙ sym (over_settled None (is_met new.inbox.due) new.inbox.taken new.closed) ∙ ap over_by (sym serves.end);
+          waits = sym serves.waits;
           at_end = was.at_end ∙ sym serves.closed;
         },
         record { active = refl; useful = refl; spoken = of.spoken; shut = of.shut },
       )
 
--- ---- a submission was begun, or fought on
+-- ---- a submission was begun or fought on, or a source was put off
 
 module _ {D A : Type 0} where
   pub stepped_at : (n : ℕ) (s : Session) (peer next : Peer A) (seat : Seat) (judge now : Judged D) → IsStepped n peer judge next now → StandsAt s (Some peer) (Some seat) → StandsAt s (Some next) (Some seat)
@@ -70,7 +72,26 @@ module _ {D A : Type 0} where
           owed = ap (λ l. s.went ++ l) is.stays.unsent ∙ was.owed;
           there = was.there;
           over = was.over ∙ ap over_by (sym is.stays.end);
+          waits = was.waits ∙ sym is.stays.waits;
           at_end = was.at_end ∙ sym is.stays.closed;
         },
         stands.1,
+      )
+
+  -- or a source was put off
+  pub put_off_at : (n : ℕ) (s : Session) (peer next : Peer A) (seat : Seat) (judge now : Judged D) → IsPutOff n peer judge next now → StandsAt s (Some peer) (Some seat)
+      → StandsAt (session_put_off s) (Some next) (Some seat)
+  put_off_at n s peer next seat judge now is stands =
+      let was = stands.0 in
+      let of = stands.1 in
+      let puts = is.puts_off in (
+        record {
+          reads = λ reader. let read = was.reads reader in record { has_read = rw (puts.end, puts.inbox, puts.closed) read.has_read; few = read.few };
+          owed = ap (λ l. s.went ++ l) puts.unsent ∙ was.owed;
+          there = was.there;
+          over = was.over ∙ ap over_by (sym puts.end);
+          waits = sym puts.waits;
+          at_end = was.at_end ∙ sym puts.closed;
+        },
+        record { active = of.active; useful = of.useful; spoken = of.spoken; shut = of.shut },
       )

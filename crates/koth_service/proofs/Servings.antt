@@ -1,17 +1,23 @@
--- How a history goes on by a command, or by a step of a submission.
+-- How a history goes on by a command, by a step of a submission, or by a source that is put off.
 use Rattle.std.proofs.Common.{◌≡◌, ℕ, ◌+◌, true, false, true≢false, length, List, [], ◌∷◌, Option, None, Some, IsSome, refl, sym, ap, subst, ◌∙◌}
 use Rattle.sector_disk.specs.Facts.{DeviceFacts}
 use Rattle.hill_store.specs.Seen.{Assembled, MayBeSpent, Seen}
 use Rattle.koth_protocol.specs.Commands.{Command, kept_source}
 use Rattle.koth_session.{specs.{Sessions.{AreServed, IsLeftOff}, Transcript.{answer, command_in}}, proofs.{Answering.submit_due, Fights.may_serve_now, Holding.keeps_cut}}
 use Rattle.koth_session.specs.{Judge.{Fight, Judged, fighting, without}, Peer.{IsFull, command_of}}
-use Rattle.koth_session.specs.Peers.{IsOfOne, IsServed, IsStepped, ServesNext, ServesOne, Slots, asks_in, may_serve_in, peer_at, step_after}
+use Rattle.koth_session.specs.Peers.{IsOfOne, IsPutOff, IsServed, IsStepped, ServesNext, ServesOne, Slots, asks_in, may_serve_in, peer_at, step_after}
 use Rattle.koth_session.{specs.declared.{end.PeerEnd.PeerEnd, peer.Peer.Peer, peers.Step.Step}, proofs.Steps.same_store}
-use Rattle.koth_service.specs.{Noted.Noted, Seats.{SeatMoves, Seats, seat_at, seat_map, seat_served}, Session.{session_answered, session_over}}
-use Rattle.koth_service.specs.{Moment.{Happening, Moment, Start, moment, other_than, round_after}, History.{Answers, Breaks, Fights, HasNoRoom, MayDisconnect, Shows, Stops}}
+use Rattle.koth_service.specs.{Noted.Noted, Seats.{SeatMoves, Seats, seat_at, seat_map, seat_served}, Session.{session_answered, session_over, session_put_off}}
+use Rattle.koth_service.specs.{Moment.{Happening, Moment, Start, moment, other_than, round_after}, History.{Answers, Breaks, Fights, HasNoRoom, MayDisconnect, PutsOff, Shows, Stops}}
 use Rattle.koth_service.specs.Standing.{AreStanding, CameToBe, GoesOn, IsCutOff, IsRound, PeersNow, StandsAt, fought_to, over_by}
-use Rattle.koth_service.{specs.declared.{connections.Stage.Stage, host.HowEnded.HowEnded, seats.Seat.Seat}, proofs.{Moments.only_seats, Stages.{came_to_be, fighting_without, safe_on}}}
-use Rattle.koth_service.proofs.{Causes.asks, Turns.{IsServing, IsThere, after, stays_standing, there, turn_by}, Outcomes.{answered_at, ended_at, safe_answered, stepped_at}}
+use Rattle.koth_service.{specs.declared.{connections.Stage.Stage, host.HowEnded.HowEnded, seats.Seat.Seat}, proofs.Moments.only_seats}
+use Rattle.koth_service.proofs.{Stages.{came_to_be, fighting_without, others_fight, safe_on, some_fights, some_under_way}, Causes.asks}
+use Rattle.koth_service.proofs.{Turns.{IsServing, IsThere, after, stays_standing, there, turn_by}, Outcomes.{answered_at, ended_at, put_off_at, safe_answered, stepped_at}}
+
+-- a seat that stays as it is
+same_seat : (seat : Option Seat) → seat ≡ seat_map (λ x. x) seat
+same_seat None = refl
+same_seat (Some seat) = refl
 
 -- a command was carried out, or ended a session
 abbrev ServedBy : {D A : Type 0} → DeviceFacts D → Option ℕ → Option PeerEnd → ℕ → Judged D → Judged D → Peer A → Peer A → Type 0
@@ -48,7 +54,12 @@ module _ {S D A : Type 0} (happened : S → List Noted → Type 0) (facts : Devi
       let e = serves.answers.0 in
       let served : AreServed facts m.now now.store (e ∷ []) = subst (λ (s : Seen D). AreServed facts s now.store (e ∷ [])) (sym before.now_is) serves.answers.2 in
       let safe = safe_answered facts n e now.store m served on.2 in
-      let answers : Answers facts n e now.store m = record { turn = turn_by n m (command_of at.peer) (command_in e) serves.answers.1 at.turn; served = served; safe = safe } in (
+      let others = others_fight n m.round.fighting was.under_way judge.under_way round.fighting is.under_way in
+      let beside : IsSome (other_than n m.round.fighting) → now.store ≡ m.now = λ other.
+      at.moved.beside (subst (λ (u : Option Fight). IsSome u) (sym at.moved.under_way)
+      (some_under_way (without n judge.under_way) (subst (λ (k : Option ℕ). IsSome k) others other))) ∙ sym before.now_is in
+      let answers : Answers facts n e now.store m =
+      record { turn = turn_by n m (command_of at.peer) (command_in e) serves.answers.1 at.turn; beside = beside; served = served; safe = safe } in (
         Happening.Answered n e now.store ∷ on.0,
         came_to_be before.logged (answers, before.follows)
             (after facts R (seat_served time) m n was new seats turn judge before.standing is (session_answered (command_in e) (answer m.now.hill e) time s) at
@@ -120,8 +131,10 @@ module _ {S D A : Type 0} (happened : S → List Noted → Type 0) (facts : Devi
       let serves = at.moved.serves in
       let source = serves.answers.0 in
       let left : IsLeftOff facts m.now now.store source = subst (λ (s : Seen D). IsLeftOff facts s now.store source) (sym before.now_is) serves.answers.2 in
+      let none = none_left now.under_way judge.store now.store (sym (ap (λ (s : Seen D). s.reopen) before.now_is) ∙ on.2.open_now) left.broken at.moved.beside in
       let breaks : Breaks facts n source now.store m = record {
         turn = turn_by n m (command_of at.peer) (Command.Submit source) serves.answers.1 at.turn;
+        alone = others_fight n m.round.fighting was.under_way judge.under_way round.fighting is.under_way ∙ ap fighting (sym at.moved.under_way ∙ none);
         left_off = left;
         safe = on.2;
         holds = keeps_cut facts m.first m.now now.store m.since source on.2.served left;
@@ -133,7 +146,7 @@ module _ {S D A : Type 0} (happened : S → List Noted → Type 0) (facts : Devi
             before.visiting refl (is.one.moves.only.size ∙ before.places) (is.serves.only.size ∙ before.seats) before.ended
             (round_served n turn m was new seats now.under_way judge round is.one.next_is is.under_way at.moved.under_way) of_one,
         left.broken,
-        none_left now.under_way judge.store now.store (sym (ap (λ (s : Seen D). s.reopen) before.now_is) ∙ on.2.open_now) left.broken at.moved.beside,
+        none,
       )
 
   served_by : (outcome : Option PeerEnd) (n : ℕ) (was : PeersNow A) (new : Slots A) (seats : Seats) (turn : ℕ) (judge now : Judged D) → step_after outcome n ≡ Step.Served n
@@ -193,6 +206,7 @@ module _ {S D A : Type 0} (happened : S → List Noted → Type 0) (facts : Devi
       let source = kept_source at.peer.inbox.script.source in
       let fights : Fights n source m = record {
         turn = turn_by n m (command_of at.peer) (Command.Submit source) (sym (submit_due at.peer.inbox.due source step.submits)) at.turn;
+        alone = others_fight n m.round.fighting was.under_way judge.under_way round.fighting same ∙ ap fighting step.own;
         sound = on.2.open_now;
         assembled = subst (λ (s : Seen D). Assembled s source) (sym before.now_is) (step.submission.warrior, step.of_source);
       } in (
@@ -203,10 +217,44 @@ module _ {S D A : Type 0} (happened : S → List Noted → Type 0) (facts : Devi
             (record { clock = round.clock; read_at = round.read_at; turn = sym one.next_is; fighting = sym (ap fighting step.under_way) }) of_one,
         safe_on on.2,
       )
-    where
-      same_seat : (seat : Option Seat) → seat ≡ seat_map (λ x. x) seat
-      same_seat None = refl
-      same_seat (Some seat) = refl
+
+  -- a source was put off
+  pub put_off : (n : ℕ) (was : PeersNow A) (new : Slots A) (turn : ℕ) (judge now : Judged D) → was.under_way ≡ judge.under_way
+      → ServesNext facts (Some steps) (Step.PutOff n) was.slots was.turn judge new turn now → IsOfOne now.store.hill.settings new now.under_way
+      → GoesOn happened facts shows start sockets was browsers judge.store
+      → GoesOn happened facts shows start sockets (fought_to new was.seats turn now.under_way was) browsers now.store
+  put_off n was new turn judge now same one of_one on =
+      let before = on.1 in
+      let round = before.round in
+      let m = moment start on.0 in
+      let s = m.sessions n in
+      let R : Peer A → Peer A → Type 0 = λ p q. IsPutOff n p judge q now in
+      let is : IsServing R (λ seat. seat) n was new was.seats turn judge = record {
+        one = one;
+        under_way = same;
+        serves = record { only = only_seats was.seats n; at = same_seat (seat_at was.seats n) };
+      } in
+      let at = there facts R (λ seat. seat) m n was new was.seats turn judge before.standing is round in
+      let put = at.moved in
+      let source = kept_source at.peer.inbox.script.source in
+      let others = others_fight n m.round.fighting was.under_way judge.under_way round.fighting same in
+      let puts_off : PutsOff n source m = record {
+        turn = turn_by n m (command_of at.peer) (Command.Submit source) (sym (submit_due at.peer.inbox.due source put.submits)) at.turn;
+        beside = subst (λ (k : Option ℕ). IsSome k) (sym others) (some_fights (without n judge.under_way) put.another);
+        assembled = subst (λ (s : Seen D). Assembled s source) (sym before.now_is) put.assembled;
+      } in (
+        Happening.PutOff n source ∷ on.0,
+        came_to_be before.logged (puts_off, before.follows)
+            (after facts R (λ seat. seat) m n was new was.seats turn judge before.standing is (session_put_off s) at (put_off_at n s at.peer at.next at.seat judge now put at.stands))
+            before.visiting (before.now_is ∙ sym (ap (λ (j : Judged D). j.store) put.same)) (is.one.moves.only.size ∙ before.places) before.seats before.ended
+            (record {
+              clock = round.clock;
+              read_at = round.read_at;
+              turn = sym one.next_is;
+              fighting = round.fighting ∙ ap fighting same ∙ sym (ap (λ (j : Judged D). fighting j.under_way) put.same);
+            }) of_one,
+        safe_on on.2,
+      )
 
   -- nothing was carried out
   unserved : (was : PeersNow A) (new : Slots A) (turn : ℕ) (judge now : Judged D) (history : List (Happening D)) → was.under_way ≡ judge.under_way → new ≡ was.slots → turn ≡ was.turn → now ≡ judge

@@ -1,5 +1,5 @@
 -- What one part of a moment makes of the others.
-use Rattle.std.proofs.{Common.{◌≡◌, ◌∙◌, inl, inr, ℕ, ◌≤◌, ◌==◌, Bool, true, false, if◌then◌else◌, length, List, [], Option, None, Some, refl, sym, subst}, lemmas.Bool.cases_eq}
+use Rattle.std.proofs.{Common.{◌≡◌, ◌∙◌, inl, inr, ℕ, ◌≤◌, ◌==◌, Bool, true, false, if◌then◌else◌, length, List, [], Option, None, Some, IsSome, ap, refl, sym, subst}, lemmas.Bool.cases_eq}
 use Rattle.sector_disk.specs.Facts.{DeviceFacts}
 use Rattle.{hill_store.specs.Seen.Seen, koth_session.specs.{Judge.{Fight, fighting, without}, Peers.IsOfOne}, koth_session.proofs.{Exchanges.served_none, Holding.keeps_list}}
 use Rattle.koth_service.specs.{Noted.Noted, Session.{Browser, Session}, Moment.{Happening, Moment, Round, Start, ended_in, instead, moment, noted, other_than}, History.{IsHistory, IsSafe, Shows}}
@@ -58,6 +58,17 @@ fighting_without n (Some (k, submission)) = at (n == k)
     at : (own : Bool) → fighting (if own then None else Some (k, submission)) ≡ (if own then None else Some k)
     at true = refl
     at false = refl
+
+pub others_fight : (n : ℕ) (fights : Option ℕ) (was under_way : Option Fight) → fights ≡ fighting was → was ≡ under_way → other_than n fights ≡ fighting (without n under_way)
+others_fight n fights was under_way is same = ap (λ f. other_than n f) (is ∙ ap fighting same) ∙ sym (fighting_without n under_way)
+
+pub some_under_way : (under_way : Option Fight) → IsSome (fighting under_way) → IsSome under_way
+some_under_way None is = is
+some_under_way (Some fight) is = refl
+
+pub some_fights : (under_way : Option Fight) → IsSome under_way → IsSome (fighting under_way)
+some_fights None is = is
+some_fights (Some fight) is = refl
 
 -- ---- no stop loses what was answered before
 

@@ -1,93 +1,63 @@
 -- Whose turn it is, by how the peers and their seats stand.
 use Rattle.std.proofs.Common.{◌≡◌, inl, inr, ℕ, ◌+◌, Bool, true, false, true≢false, List, [], ◌∷◌, ◌++◌, Option, None, Some, refl, sym, ap, subst, ◌∙◌, append_assoc, ◌⊎◌, ◌==◌, ◌&&◌, ◌||◌}
-use Rattle.std.proofs.{Common.{not, if◌then◌else◌}, lemmas.{Bool.{cases_eq, Decides.eqb_tells}, List.append_cancel_left}}
+use Rattle.std.proofs.{Common.not, lemmas.Bool.{cases_eq, Decides.eqb_tells}}
 use Rattle.sector_disk.specs.Facts.{DeviceFacts}
 use Rattle.koth_protocol.specs.{Commands.{Command, Reader, commands_read, kept_source}, declared.script.Met.Met}
-use Rattle.koth_session.{proofs.{Answering.submit_due, Fights.may_serve_now}, specs.{Inbox.{IsTaken, is_met, is_request, is_submission}, Judge.{Judged, fighting, without}}}
-use Rattle.koth_session.specs.Peer.{HasRead, IsPeer, command_due, command_of, is_due, is_due_now, submits_now}
+use Rattle.koth_session.{proofs.Fights.may_serve_now, specs.{Inbox.{IsTaken, is_met, is_request}, Judge.{Judged, fighting}}}
+use Rattle.koth_session.specs.Peer.{HasRead, IsPeer, command_due, command_of, is_due, is_due_now}
 use Rattle.koth_session.specs.Peers.{ComesBefore, IsFirstDue, Moves, ServesOne, Slots, asks_in, is_due_in, may_serve_in, peer_at, is_beside}
 use Rattle.koth_session.{specs.declared.{end.PeerEnd.PeerEnd, inbox.Inbox.Inbox, peer.Peer.Peer}, proofs.Standing.{behind_met, those_came}}
-use Rattle.koth_service.specs.{Seats.{SeatMoves, Seats, seat_at, seat_map}, Session.Session, Moment.{Moment, instead}, History.{Begins, IsBeside, IsTurn, MayBeServed, SubmitsNothing}}
-use Rattle.koth_service.{specs.{Standing.{AreStanding, IsRound, PeersNow, Stands, StandsAt}, declared.seats.Seat.Seat}, proofs.Moments.{at_both, standing_with}}
-use Rattle.koth_service.proofs.Due.{goes_on_by, idle, is_met_then, not_over}
+use Rattle.koth_service.specs.{Seats.{SeatMoves, Seats, seat_at, seat_map}, Session.Session, Moment.{Moment, instead}, History.{Begins, IsBeside, IsTurn, MayBeServed}}
+use Rattle.koth_service.{specs.{Standing.{AreStanding, IsRound, PeersNow, Stands, StandsAt}, declared.seats.Seat.Seat}, proofs.{Moments.{at_both, standing_with}, Due.{idle, not_over}}}
 
 -- ---- truth values and lists
-
-not_true : (b : Bool) → not b ≡ true → b ≡ false
-not_true true is = sym is
-not_true false is = refl
-
-or_true : (b : Bool) → (b || true) ≡ true
-or_true true = refl
-or_true false = refl
 
 one_false : (a b : Bool) → (a && b) ≡ false → (a ≡ false) ⊎ ((a ≡ true) × (b ≡ false))
 one_false true b is = inr (refl, is)
 one_false false b is = inl refl
 
-same_head : (a b : Command) (xs ys : List Command) → a ∷ xs ≡ b ∷ ys → a ≡ b
-same_head a b xs ys is = cc
+not_true : (b : Bool) → not b ≡ true → b ≡ false
+not_true true is = sym is
+not_true false is = refl
 
-not_submitted : (m : Met) (bytes source : List ℕ) → is_submission m ≡ false → command_due m bytes ≡ Command.Submit source → ⊥
-not_submitted Met.Nothing bytes source is same = absurd (cc)
-not_submitted Met.Submit bytes source is same = true≢false is
-not_submitted Met.Show bytes source is same = absurd (cc)
-not_submitted Met.Quit bytes source is same = absurd (cc)
-not_submitted Met.Request bytes source is same = absurd (cc)
-not_submitted Met.Bad bytes source is same = absurd (cc)
+not_false : (b : Bool) → not b ≡ false → b ≡ true
+not_false true is = refl
+not_false false is = sym is
 
--- the turn may not come to it
-not_beside : (busy : Option ℕ) (n : ℕ) (s : Session) (submits : Bool) → is_beside busy n submits ≡ false → (submits ≡ true → SubmitsNothing s → ⊥) → IsBeside busy n s → ⊥
-not_beside None n s submits is some beside = true≢false is
-not_beside (Some k) n s true is some (inl same) =
-    elim (eqb_tells n k) [ inl equal ↦ true≢false (sym (ap (λ b. b || false) equal.0) ∙ is) | inr differ ↦ differ.1 same ]
-not_beside (Some k) n s true is some (inr nothing) = some refl nothing
-not_beside (Some k) n s false is some beside = true≢false (sym (or_true (n == k)) ∙ is)
+either_false : (a b : Bool) → (a || b) ≡ false → (a ≡ false) × (b ≡ false)
+either_false true b is = absurd (true≢false is)
+either_false false b is = (refl, is)
 
 module _ {A : Type 0} where
-  -- the command that is due is the next one in what came
-  next_due : (s : Session) (peer : Peer A) → Stands s peer → is_due_now peer ≡ true
-      → (behind : List Command) × (commands_read Reader.Session s.came ≡ s.done ++ command_of peer ∷ behind)
-  next_due s peer stands due =
-      let those = those_came Reader.Session peer.inbox s.came s.done (goes_on_by Reader.Session s peer stands due) in
-      let here = behind_met Reader.Session peer.inbox.due peer.inbox.script.source those.0 (is_met_then peer.end (is_met peer.inbox.due) due) tt in
-      (here.0, those.1 ∙ ap (λ l. s.done ++ l) here.1)
-
-  -- a peer with a submission that is due, and one without
-  submits_some : (s : Session) (peer : Peer A) → Stands s peer → is_due_now peer ≡ true → submits_now peer ≡ true → SubmitsNothing s → ⊥
-  submits_some s peer stands due submits nothing =
-      let bytes = kept_source peer.inbox.script.source in
-      let next = next_due s peer stands due in
-      let command : Command.Submit bytes ≡ command_of peer = submit_due peer.inbox.due bytes submits in
-      nothing bytes (next.0, next.1 ∙ ap (λ (k : Command). s.done ++ k ∷ next.0) (sym command) ∙ sym (append_assoc s.done (Command.Submit bytes ∷ []) next.0))
-
-  submits_none : (s : Session) (peer : Peer A) → Stands s peer → is_due_now peer ≡ true → submits_now peer ≡ false → SubmitsNothing s
-  submits_none s peer stands due other source begins =
-      let next = next_due s peer stands due in
-      let same : command_of peer ∷ next.0 ≡ Command.Submit source ∷ begins.0 =
-      append_cancel_left s.done (command_of peer ∷ next.0) (Command.Submit source ∷ begins.0) (sym next.1 ∙ begins.1 ∙ append_assoc s.done (Command.Submit source ∷ []) begins.0) in
-      not_submitted peer.inbox.due (kept_source peer.inbox.script.source) source other (same_head (command_of peer) (Command.Submit source) next.0 begins.0 same)
-
   -- the turn may come to it
-  pub beside_at : (busy : Option ℕ) (n : ℕ) (s : Session) (peer : Peer A) → Stands s peer → is_due_now peer ≡ true → is_beside busy n (submits_now peer) ≡ true → IsBeside busy n s
-  beside_at None n s peer stands due is = tt
-  beside_at (Some k) n s peer stands due is =
+  beside_at : (busy : Option ℕ) (n : ℕ) (s : Session) (peer : Peer A) → Stands s peer → is_beside busy n peer.waits ≡ true → IsBeside busy n s
+  beside_at None n s peer stands is = tt
+  beside_at (Some k) n s peer stands is =
       elim (eqb_tells n k) [
         | inl same ↦ inl same.1
-        | inr differ ↦ inr (submits_none s peer stands due (not_true (submits_now peer) (sym (ap (λ b. b || not (submits_now peer)) differ.0) ∙ is)))
+        | inr differ ↦ inr (stands.waits ∙ not_true peer.waits (sym (ap (λ b. b || not peer.waits) differ.0) ∙ is))
       ]
 
-  pub nobody_may : {D : Type 0} (busy : Option ℕ) (m : Moment D) (p : ℕ) (slot : Option (Peer A)) (seat : Option Seat) → StandsAt (m.sessions p) slot seat → m.round.fighting ≡ busy
+  -- or it may not
+  not_beside : (busy : Option ℕ) (n : ℕ) (s : Session) (peer : Peer A) → Stands s peer → is_beside busy n peer.waits ≡ false → IsBeside busy n s → ⊥
+  not_beside None n s peer stands is beside = true≢false is
+  not_beside (Some k) n s peer stands is (inl same) =
+      let other = (either_false (n == k) (not peer.waits) is).0 in
+      elim (eqb_tells n k) [ inl equal ↦ true≢false (sym equal.0 ∙ other) | inr differ ↦ differ.1 same ]
+  not_beside (Some k) n s peer stands is (inr goes) =
+      let waits = not_false peer.waits (either_false (n == k) (not peer.waits) is).1 in
+      true≢false (sym waits ∙ sym stands.waits ∙ goes)
+
+  nobody_may : {D : Type 0} (busy : Option ℕ) (m : Moment D) (p : ℕ) (slot : Option (Peer A)) (seat : Option Seat) → StandsAt (m.sessions p) slot seat → m.round.fighting ≡ busy
       → may_serve_in busy p slot ≡ false → MayBeServed m p → ⊥
   nobody_may busy m p None None stands same never may = true≢false (sym may.0 ∙ stands)
   nobody_may busy m p None (Some seat) stands same never may = absurd stands
   nobody_may busy m p (Some peer) None stands same never may = absurd stands
   nobody_may busy m p (Some peer) (Some seat) stands same never may =
       let s = m.sessions p in
-      elim (one_false (is_due_now peer) (is_beside busy p (submits_now peer)) never) [
+      elim (one_false (is_due_now peer) (is_beside busy p peer.waits) never) [
         | inl none ↦ may.1 (idle s peer stands.0 none)
-        | inr late ↦ not_beside busy p s (submits_now peer) late.1 (λ submits nothing. submits_some s peer stands.0 late.0 submits nothing)
-            (subst (λ b. IsBeside b p s) same may.2)
+        | inr late ↦ not_beside busy p s peer stands.0 late.1 (subst (λ b. IsBeside b p s) same may.2)
       ]
 
 -- ---- the command that is due is the next one in what came, if it is no browser's request
@@ -126,7 +96,7 @@ module _ {D A : Type 0} (facts : DeviceFacts D) where
       λ p before may. nobody_may busy m p (peer_at slots p) (seat_at seats p) (standing p) fights (first.before p (subst (λ k. ComesBefore k p n) turn before)) may in record {
         in_turn = λ reader. in_turn peer s.came s.done due.0 other reader (at.reads reader);
         goes_on = not_over s peer at due.0;
-        beside = subst (λ b. IsBeside b n s) (sym fights) (beside_at busy n s peer at due.0 due.1);
+        beside = subst (λ b. IsBeside b n s) (sym fights) (beside_at busy n s peer at due.1);
         first = earlier;
       }
 

@@ -18,6 +18,7 @@ Counts before (Happening.Answered n e new ∷ older) found more =
     × (more ≡ None)
 Counts before (Happening.Stopped n end ∷ older) found more = Counts before older found more
 Counts before (Happening.Stepped n source ∷ older) found more = Counts before older found more
+Counts before (Happening.PutOff n source ∷ older) found more = Counts before older found more
 Counts before (Happening.CutOff n source new ∷ older) found more =
     Counts before older found None × (more ≡ Some source)
 Counts before (Happening.Reopened new ∷ older) found more =
@@ -51,6 +52,7 @@ AreEvents (Happening.Answered n e new ∷ older) events =
     (before : List Event) × AreEvents older before × (events ≡ before ++ answers_to (e ∷ []) ∷ [])
 AreEvents (Happening.Stopped n end ∷ older) events = AreEvents older events
 AreEvents (Happening.Stepped n source ∷ older) events = AreEvents older events
+AreEvents (Happening.PutOff n source ∷ older) events = AreEvents older events
 AreEvents (Happening.CutOff n source new ∷ older) events =
     (before : List Event) × AreEvents older before × (events ≡ before ++ Event.Unanswered source ∷ [])
 AreEvents (Happening.Reopened new ∷ older) events =

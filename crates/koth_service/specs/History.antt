@@ -7,7 +7,7 @@ use Rattle.koth_protocol.specs.Commands.{Command, Reader, commands_read}
 use Rattle.koth_session.specs.{Sessions.{AreServed, IsLeftOff, KeepsCut, KeepsList}, Transcript.{Exchange, command_in}}
 use Rattle.koth_session.specs.{Peer.IsFull, Peers.ComesBefore, declared.end.PeerEnd.PeerEnd}
 use Rattle.koth_service.specs.{Answering.{AnswersBytes, Site}, Noted.Noted, Session.Session}
-use Rattle.koth_service.specs.Moment.{Happening, Moment, Start, answered, moment}
+use Rattle.koth_service.specs.Moment.{Happening, Moment, Start, answered, moment, other_than}
 use Rattle.koth_service.specs.declared.{host.HowEnded.HowEnded, times.TheConstants.{PATIENCE, UNSPOKEN, UNUSED}}
 
 abbrev pub Begins : {T : Type 0} → List T → List T → Type 0
@@ -19,26 +19,25 @@ Begins {T} short long = (rest : List T) × (long ≡ short ++ rest)
 abbrev pub HasNothingDue : Session → Type 0
 HasNothingDue s = IsSome s.over ⊎ (commands_read Reader.Session s.came ≡ s.done)
 
--- its next command is no submission
-abbrev pub SubmitsNothing : Session → Type 0
-SubmitsNothing s =
-    (source : List ℕ) → ¬ (Begins (s.done ++ Command.Submit source ∷ []) (commands_read Reader.Session s.came))
-
--- While the submission of a peer is under way, the others have to wait with theirs: only its own goes on. Whatever is
--- no submission is carried out meanwhile.
+-- While the submission of a peer is under way, the turn comes to its own, and to those whose source was not put off:
+-- that of another is refused then, or put off.
 abbrev pub IsBeside : Option ℕ → ℕ → Session → Type 0
 IsBeside None p s = ⊤
-IsBeside (Some k) p s = (p ≡ k) ⊎ SubmitsNothing s
+IsBeside (Some k) p s = (p ≡ k) ⊎ (s.waits ≡ false)
+
+-- no submission of another peer is under way
+abbrev pub IsAlone : {D : Type 0} → ℕ → Moment D → Type 0
+IsAlone n m = other_than n m.round.fighting ≡ None
 
 -- The peers of which a command may be carried out at this moment: all that are there and have one due. While a
--- submission is under way, these are its own peer, of which it is the command, and those whose command is none.
+-- submission is under way, these are its own peer, of which it is the command, and those whose source was not put off.
 abbrev pub MayBeServed : {D : Type 0} → Moment D → ℕ → Type 0
 MayBeServed m p =
     ((m.sessions p).there ≡ true) × ¬ (HasNothingDue (m.sessions p)) × IsBeside m.round.fighting p (m.sessions p)
 
 -- It is this peer's turn to have this command carried out: the command is the next one in what came, and came before
--- any request of a browser; no command ended its session; if the submission of another is under way, the command is
--- none; and of no peer before it, from the one served last on and going round, one may be carried out.
+-- any request of a browser; no command ended its session; if the submission of another is under way, the command was
+-- not put off; and of no peer before it, from the one served last on and going round, one may be carried out.
 pub record IsTurn {D : Type 0} (n : ℕ) (command : Command) (m : Moment D) : Type 0 where
   pub in_turn : (reader : Reader)
       → Begins ((m.sessions n).done ++ command ∷ []) (commands_read reader (m.sessions n).came)
@@ -56,25 +55,36 @@ pub record IsSafe {D : Type 0} (facts : DeviceFacts D) (m : Moment D) : Type 0 w
   pub open_now : m.now.reopen ≡ false
   pub holds : KeepsList facts m.first m.now m.since
 
--- A command of this peer was carried out in its turn. No stop loses it.
+-- A command of this peer was carried out in its turn. No stop loses it. While the submission of another is under way,
+-- it leaves the store as it is: a source is refused then, or was not submitted.
 pub record Answers {D : Type 0} (facts : DeviceFacts D) (n : ℕ) (e : Exchange) (new : Seen D)
     (m : Moment D) : Type 0 where
   pub turn : IsTurn n (command_in e) m
+  pub beside : IsSome (other_than n m.round.fighting) → new ≡ m.now
   pub served : AreServed facts m.now new (e ∷ [])
   pub safe : IsSafe facts (answered n e new m)
 
--- A submission of this peer was begun or fought on in its turn, on the hill as it is: its source gives a warrior.
--- Nothing was answered, and neither the hill nor any image of the device changed.
+-- A submission of this peer was begun or fought on in its turn, on the hill as it is, and no other is under way: its
+-- source gives a warrior. Nothing was answered, and neither the hill nor any image of the device changed.
 pub record Fights {D : Type 0} (n : ℕ) (source : List ℕ) (m : Moment D) : Type 0 where
   pub turn : IsTurn n (Command.Submit source) m
+  pub alone : IsAlone n m
   pub sound : m.now.reopen ≡ false
   pub assembled : Assembled m.now source
 
+-- A source of this peer was put off in its turn, while the submission of another is under way: it gives a warrior, so it
+-- is not refused. Nothing was answered, and neither the hill nor any image of the device changed.
+pub record PutsOff {D : Type 0} (n : ℕ) (source : List ℕ) (m : Moment D) : Type 0 where
+  pub turn : IsTurn n (Command.Submit source) m
+  pub beside : IsSome (other_than n m.round.fighting)
+  pub assembled : Assembled m.now source
+
 -- The device failed in a submission of this peer in its turn, and had failed in none before: each image has what was
--- answered, with this submission or without it.
+-- answered, with this submission or without it. No other is under way.
 pub record Breaks {D : Type 0} (facts : DeviceFacts D) (n : ℕ) (source : List ℕ) (new : Seen D)
     (m : Moment D) : Type 0 where
   pub turn : IsTurn n (Command.Submit source) m
+  pub alone : IsAlone n m
   pub left_off : IsLeftOff facts m.now new source
   pub safe : IsSafe facts m
   pub holds : KeepsCut facts m.first new m.since source
@@ -220,6 +230,7 @@ Follows facts shows most (Happening.On (Noted.Left n)) m = ⊤
 Follows facts shows most (Happening.Answered n e new) m = Answers facts n e new m
 Follows facts shows most (Happening.Stopped n end) m = Stops (shows m.now).steps n end m
 Follows facts shows most (Happening.Stepped n source) m = Fights n source m
+Follows facts shows most (Happening.PutOff n source) m = PutsOff n source m
 Follows facts shows most (Happening.CutOff n source new) m = Breaks facts n source new m
 Follows facts shows most (Happening.Reopened new) m = Reopens facts new m
 Follows facts shows most (Happening.Disconnected n how) m = MayDisconnect most n how m

@@ -7,18 +7,19 @@ use Rattle.koth_session.specs.declared.end.PeerEnd.{PeerEnd}
 use Rattle.koth_service.specs.{Noted.Noted, Session.{Browser, Session, browser_anew, browser_came}}
 use Rattle.koth_service.specs.Session.{browser_replied, browser_went}
 use Rattle.koth_service.specs.Session.{session_anew, session_answered, session_at_end, session_came, session_lost}
-use Rattle.koth_service.specs.Session.{session_over, session_shut, session_went}
+use Rattle.koth_service.specs.Session.{session_over, session_put_off, session_shut, session_went}
 use Rattle.koth_service.specs.declared.host.HowEnded.{HowEnded}
 
 -- Something happened on the sockets. A command of a peer was carried out, and this is the store then. A command that
--- is due of a peer ended its session. A submission of a peer was begun with this source, or fought on. The device
--- failed in a submission of a peer. The hill was opened again. A peer was disconnected for this cause. Or a browser was
--- given this answer.
+-- is due of a peer ended its session. A submission of a peer was begun with this source, or fought on. This source of a
+-- peer was put off, while the submission of another was under way. The device failed in a submission of a peer. The
+-- hill was opened again. A peer was disconnected for this cause. Or a browser was given this answer.
 pub data Happening (D : Type 0) : Type 0 where
   On : Noted → Happening D
   Answered : ℕ → Exchange → Seen D → Happening D
   Stopped : ℕ → PeerEnd → Happening D
   Stepped : ℕ → List ℕ → Happening D
+  PutOff : ℕ → List ℕ → Happening D
   CutOff : ℕ → List ℕ → Seen D → Happening D
   Reopened : Seen D → Happening D
   Disconnected : ℕ → HowEnded → Happening D
@@ -31,6 +32,7 @@ noted (Happening.On what ∷ older) = what ∷ noted older
 noted (Happening.Answered n e new ∷ older) = noted older
 noted (Happening.Stopped n end ∷ older) = noted older
 noted (Happening.Stepped n source ∷ older) = noted older
+noted (Happening.PutOff n source ∷ older) = noted older
 noted (Happening.CutOff n source new ∷ older) = noted older
 noted (Happening.Reopened new ∷ older) = noted older
 noted (Happening.Disconnected n how ∷ older) = Noted.Closed n ∷ noted older
@@ -167,6 +169,16 @@ abbrev pub round_stepped : ℕ → Round → Round
 round_stepped n r =
     record { clock = r.clock; read_at = r.read_at; waits = r.waits; turn = n + 1; fighting = Some n }
 
+-- or that of another still is, and the turn goes on after this number
+abbrev pub round_passed : ℕ → Round → Round
+round_passed n r = record {
+  clock = r.clock;
+  read_at = r.read_at;
+  waits = r.waits;
+  turn = n + 1;
+  fighting = r.fighting;
+}
+
 -- a command was carried out on the store as it was, and its answer is owed to the peer
 abbrev pub answered : {D : Type 0} → ℕ → Exchange → Seen D → Moment D → Moment D
 answered n e new m = record {
@@ -216,6 +228,8 @@ next (Happening.On (Noted.Left n)) m = with_browser n (browser_anew false) m
 next (Happening.Answered n e new) m = answered n e new m
 next (Happening.Stopped n end) m = stopped n end m.now m
 next (Happening.Stepped n source) m = with_round (round_stepped n m.round) m
+next (Happening.PutOff n source) m =
+    with_round (round_passed n m.round) (with_session n (session_put_off (m.sessions n)) m)
 next (Happening.CutOff n source new) m = stopped n PeerEnd.StoreFailed new m
 next (Happening.Reopened new) m = reopened new m
 next (Happening.Disconnected n how) m =

@@ -6,9 +6,9 @@ use Rattle.koth_service.specs.Seats.{has_line}
 
 -- For a peer: whether it is there, what came from it, and whether that is at its end; which of its commands were
 -- carried out, and what they were answered; what went out; how a command ended its session, if one did: after that no
--- command of it is carried out. Whether its writing side was shut, and whether the sockets said that it is gone. When
--- it was seated, a byte came or went, or a command was carried out last; and when it was seated, a whole line came,
--- or a command was carried out last.
+-- command of it is carried out. Whether its next command is a source that was put off. Whether its writing side was
+-- shut, and whether the sockets said that it is gone. When it was seated, a byte came or went, or a command was carried
+-- out last; and when it was seated, a whole line came, or a command was carried out last.
 pub record Session : Type 0 where
   pub there : Bool
   pub came : List ℕ
@@ -17,6 +17,7 @@ pub record Session : Type 0 where
   pub owed : List ℕ
   pub went : List ℕ
   pub over : Option PeerEnd
+  pub waits : Bool
   pub shut : Bool
   pub lost : Bool
   pub active : ℕ
@@ -39,6 +40,7 @@ session_anew is now = record {
   owed = [];
   went = [];
   over = None;
+  waits = false;
   shut = false;
   lost = false;
   active = now;
@@ -55,6 +57,7 @@ session_came bytes now s = record {
   owed = s.owed;
   went = s.went;
   over = s.over;
+  waits = s.waits;
   shut = s.shut;
   lost = s.lost;
   active = now;
@@ -71,6 +74,7 @@ session_at_end s = record {
   owed = s.owed;
   went = s.went;
   over = s.over;
+  waits = s.waits;
   shut = s.shut;
   lost = s.lost;
   active = s.active;
@@ -87,6 +91,7 @@ session_answered command reply now s = record {
   owed = s.owed ++ reply;
   went = s.went;
   over = s.over;
+  waits = false;
   shut = s.shut;
   lost = s.lost;
   active = now;
@@ -103,10 +108,28 @@ session_over end now s = record {
   owed = s.owed;
   went = s.went;
   over = Some end;
+  waits = false;
   shut = s.shut;
   lost = s.lost;
   active = now;
   useful = now;
+}
+
+-- its source gives a warrior, and waits now
+abbrev pub session_put_off : Session → Session
+session_put_off s = record {
+  there = s.there;
+  came = s.came;
+  at_end = s.at_end;
+  done = s.done;
+  owed = s.owed;
+  went = s.went;
+  over = s.over;
+  waits = true;
+  shut = s.shut;
+  lost = s.lost;
+  active = s.active;
+  useful = s.useful;
 }
 
 -- bytes went out to it
@@ -119,6 +142,7 @@ session_went bytes now s = record {
   owed = s.owed;
   went = s.went ++ bytes;
   over = s.over;
+  waits = s.waits;
   shut = s.shut;
   lost = s.lost;
   active = now;
@@ -135,6 +159,7 @@ session_shut s = record {
   owed = s.owed;
   went = s.went;
   over = s.over;
+  waits = s.waits;
   shut = true;
   lost = s.lost;
   active = s.active;
@@ -151,6 +176,7 @@ session_lost s = record {
   owed = s.owed;
   went = s.went;
   over = s.over;
+  waits = s.waits;
   shut = s.shut;
   lost = true;
   active = s.active;

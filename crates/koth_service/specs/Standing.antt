@@ -30,6 +30,7 @@ pub record Stands {A : Type 0} (s : Session) (peer : Peer A) : Type 0 where
   pub owed : s.went ++ peer.outbox.unsent ≡ s.owed
   pub there : s.there ≡ true
   pub over : s.over ≡ over_by peer.end
+  pub waits : s.waits ≡ peer.waits
   pub at_end : s.at_end ≡ peer.closed
 
 -- its seat tells when something of it happened last, whether a byte came, and whether its writing side was shut
@@ -203,6 +204,8 @@ StandsAfter happened facts shows (Step.Served n) start sockets peers browsers st
     GoesOn happened facts shows start sockets peers browsers store
 StandsAfter happened facts shows (Step.Stepped n) start sockets peers browsers store =
     GoesOn happened facts shows start sockets peers browsers store
+StandsAfter happened facts shows (Step.PutOff n) start sockets peers browsers store =
+    GoesOn happened facts shows start sockets peers browsers store
 StandsAfter happened facts shows (Step.Asked n) start sockets peers browsers store =
     GoesOn happened facts shows start sockets peers browsers store
 StandsAfter happened facts shows (Step.StoreFailed n) start sockets peers browsers store =
@@ -251,6 +254,7 @@ abbrev pub IsSoundAfter : {D A : Type 0} → DeviceFacts D → Step → Desk D A
 IsSoundAfter facts Step.Nobody old new = new ≡ old
 IsSoundAfter facts (Step.Served n) old new = new ≡ old
 IsSoundAfter facts (Step.Stepped n) old new = new ≡ old
+IsSoundAfter facts (Step.PutOff n) old new = new ≡ old
 IsSoundAfter facts (Step.Asked n) old new = new ≡ old
 IsSoundAfter facts (Step.StoreFailed n) old new = IsReopened facts old new
 

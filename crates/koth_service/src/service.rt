@@ -185,6 +185,7 @@ fn sound<D: Device + Drop, A: Allocator + Copy, H: Host<D, A>>(
         Step::Nobody => Ok(desk),
         Step::Served(_) => Ok(desk),
         Step::Stepped(_) => Ok(desk),
+        Step::PutOff(_) => Ok(desk),
         Step::Asked(_) => Ok(desk),
         Step::StoreFailed(_) => reopened(desk, host),
     }

@@ -28,6 +28,7 @@ pub(crate) fn serve_one<S: Sockets, D: Device, A: Allocator + Copy, H: Host<D, A
     match step {
         Step::Nobody => {}
         Step::Stepped(_) => {}
+        Step::PutOff(_) => {}
         Step::Asked(number) => let_go(desk, sockets, host, errors, number, HowEnded::Browser),
         Step::Served(number) => {
             desk.seats.serve(number, desk.clock);

@@ -1,10 +1,10 @@
 -- A submission that is under way, and the peers beside it: for `Judge` and `serve_next`.
-use Rattle.std.proofs.Common.{◌≡◌, ◌≢◌, ◌∙◌, inl, inr, ℕ, ◌==◌, ◌&&◌, ◌||◌, Bool, true, false, true≢false, not, if◌then◌else◌, Option, None, Some, IsSome, refl, sym, ap, ap₂, subst}
+use Rattle.std.proofs.Common.{◌≡◌, ◌≢◌, ◌∙◌, inl, inr, ℕ, ◌==◌, ◌&&◌, ◌||◌, Bool, true, false, true≢false, not, if◌then◌else◌, Option, None, Some, IsSome, is_some, Result, Ok, Err, IfOk, IfErr, refl, sym, ap, ap₂, subst}
 use Rattle.std.proofs.lemmas.Bool.{cases_eq, Decides.eqb_tells}
-use Rattle.{sector_disk.specs.Facts.DeviceFacts, war_types.specs.declared.settings.RawSettings.RawSettings, hill_store.specs.{Seen.Seen, Submission.{SubmissionParts}}, koth_protocol.specs.Commands.kept_source}
-use Rattle.koth_session.specs.{Inbox.{is_met, is_submission}, Judge.{AreSubmitting, Fight, IsOfSource, Judged, fighting, judged, without}, Peer.{Closes, IsStillDue, Sends, is_due, is_due_now, settled_now, submits_now}}
-use Rattle.koth_session.specs.Peers.{IsOfIn, IsOfIts, IsOfOne, IsOfPeer, IsServed, IsStepped, Moves, MovesAt, OnlyAt, Slots, is_beside, may_serve_in, peer_at}
-use Rattle.{koth_session.specs.declared.{end.PeerEnd.PeerEnd, inbox.Inbox.Inbox, peer.Peer.Peer}, koth_session.proofs.Standing.{goes_on_still, is_met_then, still_due}}
+use Rattle.{sector_disk.specs.Facts.DeviceFacts, war_types.specs.declared.settings.RawSettings.RawSettings, hill_store.specs.{Seen.{Assembled, Seen}, Submission.SubmissionParts}, koth_protocol.specs.Commands.kept_source}
+use Rattle.koth_session.specs.{Inbox.{is_met, is_submission}, Judge.{AreSubmitting, Fight, IsOfSource, Judged, fighting, judged, without}, Peer.{Closes, IsStillDue, PutsOff, Sends, Serves, is_due, is_due_now, settled_now, submits_now}}
+use Rattle.koth_session.specs.Peers.{IsOfIn, IsOfIts, IsOfOne, IsOfPeer, IsPutOff, IsServed, IsStepped, IsUnanswered, Moves, MovesAt, OnlyAt, Slots, is_beside, may_serve_in, peer_at}
+use Rattle.{koth_session.specs.declared.{end.PeerEnd.PeerEnd, inbox.Inbox.Inbox, peer.{Peer.Peer, Unanswered.Unanswered}}, koth_session.proofs.Standing.{goes_on_still, is_met_then, still_due}}
 
 -- ---- numbers and truth values
 
@@ -35,16 +35,37 @@ still_submitting {D} n store (Some (k, submission)) are = at (n == k)
     at true = tt
     at false = are
 
--- the turn comes with a submission only to the peer whose submission is under way
-pub own_beside : (n k : ℕ) → is_beside (Some k) n true ≡ true → n ≡ k
-own_beside n k is =
-    elim (eqb_tells n k) [ inl same ↦ same.1 | inr differ ↦ absurd (true≢false (sym is ∙ ap (λ b. b || not true) differ.0)) ]
+-- whether that of another peer is
+pub anothers : (n k : ℕ) (submission : SubmissionParts) → not (n == k) ≡ is_some (without n (Some (k, submission)))
+anothers n k submission = at (n == k)
+  where
+    at : (own : Bool) → not own ≡ is_some {T = Fight} (if own then None else Some (k, submission))
+    at true = refl
+    at false = refl
 
-pub own_is : (n k : ℕ) (under_way : Option Fight) (submission : SubmissionParts) (submits : Bool) → under_way ≡ Some (k, submission) → submits ≡ true
-    → is_beside (fighting under_way) n submits ≡ true → under_way ≡ Some (n, submission)
-own_is n k under_way submission submits is due beside =
-    let here : is_beside (Some k) n true ≡ true = subst (λ b. is_beside (Some k) n b ≡ true) due (subst (λ (u : Option Fight). is_beside (fighting u) n submits ≡ true) is beside) in
-    is ∙ ap (λ (p : ℕ). Some (p, submission)) (sym (own_beside n k here))
+pub without_another : (n : ℕ) (under_way : Option Fight) → is_some (without n under_way) ≡ true → under_way ≡ without n under_way
+without_another n None is = refl
+without_another n (Some (k, submission)) is =
+    elim (cases_eq n k) [
+      | inl same ↦ absurd (true≢false (sym is ∙ sym (anothers n k submission) ∙ ap (λ p. not (n == p)) (sym same) ∙ ap not (same_number n)))
+      | inr other ↦ sym (without_other n k submission other)
+    ]
+
+pub none_without : (n : ℕ) (under_way : Option Fight) → is_some (without n under_way) ≡ false → without n under_way ≡ None
+none_without n under_way is = none_in (without n under_way) is
+  where
+    none_in : (fight : Option Fight) → is_some fight ≡ false → fight ≡ None
+    none_in None is = refl
+    none_in (Some fight) is = absurd (true≢false is)
+
+-- if that of no other peer is, it is that of this one
+pub own_is : (n k : ℕ) (under_way : Option Fight) (submission : SubmissionParts) → under_way ≡ Some (k, submission)
+    → is_some (without n under_way) ≡ false → under_way ≡ Some (n, submission)
+own_is n k under_way submission is own =
+    elim (cases_eq n k) [
+      | inl same ↦ is ∙ ap (λ (p : ℕ). Some (p, submission)) (sym same)
+      | inr other ↦ absurd (true≢false (ap is_some (sym (without_other n k submission other)) ∙ ap (λ (u : Option Fight). is_some (without n u)) (sym is) ∙ own))
+    ]
 
 -- a turn to a peer without a submission leaves what is under way
 pub without_told : {D A : Type 0} (n : ℕ) (peer : Peer A) (store : Seen D) (under_way : Option Fight) → submits_now peer ≡ false → IsOfIts n peer (judged store under_way)
@@ -59,8 +80,8 @@ without_told n peer store (Some (k, submission)) tells its =
 -- ---- peers by their numbers
 
 module _ {A : Type 0} where
-  pub may_serve_now : (busy : Option ℕ) (n : ℕ) (peer : Peer A) → may_serve_in busy n (Some peer) ≡ true → (is_due_now peer ≡ true) × (is_beside busy n (submits_now peer) ≡ true)
-  may_serve_now busy n peer may = both (is_due_now peer) (is_beside busy n (submits_now peer)) may
+  pub may_serve_now : (busy : Option ℕ) (n : ℕ) (peer : Peer A) → may_serve_in busy n (Some peer) ≡ true → (is_due_now peer ≡ true) × (is_beside busy n peer.waits ≡ true)
+  may_serve_now busy n peer may = both (is_due_now peer) (is_beside busy n peer.waits) may
 
   of_in_at : {D : Type 0} (n : ℕ) (slots : Slots A) (judge : Judged D) (slot : Option (Peer A)) → peer_at slots n ≡ slot
       → IsOfOne judge.store.hill.settings slots judge.under_way → IsOfIn n slot judge
@@ -120,6 +141,14 @@ module _ {A : Type 0} where
     source = ap (λ (i : Inbox A). i.script.source) sends.inbox;
   }
 
+  -- or that its source waits
+  pub put_off_still : (p q : Peer A) → PutsOff p q → is_due_now p ≡ true → IsStillDue p q
+  put_off_still p q puts due = record {
+    due = ap₂ (λ (e : Option PeerEnd). λ (i : Inbox A). is_due e (is_met i.due)) puts.end puts.inbox ∙ due;
+    met_is = ap (λ (i : Inbox A). i.due) puts.inbox;
+    source = ap (λ (i : Inbox A). i.script.source) puts.inbox;
+  }
+
   pub closes_still : (p q : Peer A) → Closes p q → is_due_now p ≡ true → IsStillDue p q
   closes_still p q closes due =
       let same = ap (λ (i : Inbox A). i.due) closes.inbox in
@@ -162,3 +191,30 @@ module _ {D A : Type 0} (n : ℕ) (old : Slots A) (judge : Judged D) (new : Slot
   pub stepped_of : (busy : Option ℕ) → may_serve_in busy n (peer_at old n) ≡ true → MovesAt (λ p q. IsStepped n p judge q now) n old new
       → IsOfOne now.store.hill.settings new now.under_way
   stepped_of busy may moves = stepped_at busy (peer_at old n) may moves.at
+
+  put_off_at : (busy : Option ℕ) (slot : Option (Peer A)) → may_serve_in busy n slot ≡ true → Moves (λ p q. IsPutOff n p judge q now) slot (peer_at new n)
+      → MovesAt (λ p q. IsPutOff n p judge q now) n old new → IsOfOne judge.store.hill.settings old judge.under_way → IsOfOne now.store.hill.settings new now.under_way
+  put_off_at busy None may moved moves of = absurd (true≢false (sym may))
+  put_off_at busy (Some peer) may moved moves of =
+      let is = moved.2 in
+      subst (λ (j : Judged D). IsOfOne j.store.hill.settings new j.under_way) (sym is.same)
+      (of_moved (λ p q. IsPutOff n p judge q now) judge.store.hill.settings n old new judge.under_way (λ p q put due. put_off_still p q put.puts_off due) moves of)
+
+  pub put_off_of : (busy : Option ℕ) → may_serve_in busy n (peer_at old n) ≡ true → MovesAt (λ p q. IsPutOff n p judge q now) n old new
+      → IsOfOne judge.store.hill.settings old judge.under_way → IsOfOne now.store.hill.settings new now.under_way
+  put_off_of busy may moves of = put_off_at busy (peer_at old n) may moves.at moves of
+
+-- a source that is put off, and one that isn't
+module _ {D A : Type 0} (facts : DeviceFacts D) (steps : Option ℕ) (n : ℕ) (peer next : Peer A) (store : Seen D) (under_way : Option Fight) where
+  pub served_beside : (result : Result (Option PeerEnd) Unanswered) → is_some (without n under_way) ≡ true → IfOk result (λ outcome. Serves facts steps outcome peer store next store)
+      → IfOk result (λ outcome. IsServed facts steps outcome n peer (judged store under_way) next (judged store under_way))
+  served_beside (Ok outcome) another serves = record { serves = serves; under_way = without_another n under_way another; beside = λ some. refl }
+  served_beside (Err why) another serves = tt
+
+  pub put_off_beside : (result : Result (Option PeerEnd) Unanswered) → submits_now peer ≡ true → is_some (without n under_way) ≡ true → IfErr result (λ why. why ≡ Unanswered.PutOff)
+      → IfErr result (λ why. Assembled store (kept_source peer.inbox.script.source)) → IfErr result (λ why. PutsOff peer next)
+      → IfErr result (λ why. IsUnanswered why n peer (judged store under_way) next (judged store under_way))
+  put_off_beside (Ok outcome) submits another why assembled puts = tt
+  put_off_beside (Err other) submits another why assembled puts =
+      subst (λ (w : Unanswered). IsUnanswered w n peer (judged store under_way) next (judged store under_way)) (sym why)
+      (record { submits = submits; another = another; assembled = assembled; puts_off = puts; same = refl })

@@ -82,11 +82,12 @@ module _ {A : Type 0} where
   -- ---- bytes come
 
   pub took : (old new : Peer A) (bytes : List ℕ) → old.end ≡ None → new.end ≡ settled_now None new → new.closed ≡ old.closed
-      → new.outbox.unsent ≡ old.outbox.unsent → ((reader : Reader) (came : List ℕ) (done : List Command) → IsReadTo reader old.inbox came done → IsReadTo reader new.inbox (came ++ bytes) done)
+      → new.outbox.unsent ≡ old.outbox.unsent → new.waits ≡ old.waits
+      → ((reader : Reader) (came : List ℕ) (done : List Command) → IsReadTo reader old.inbox came done → IsReadTo reader new.inbox (came ++ bytes) done)
       → (is_met old.inbox.due ≡ false → is_met new.inbox.due ≡ true → length new.inbox.waiting < length old.inbox.waiting + length bytes)
       → (is_met old.inbox.due ≡ true → new.inbox.due ≡ old.inbox.due) → (is_met old.inbox.due ≡ true → new.inbox.script.source ≡ old.inbox.script.source)
       → Takes old bytes new
-  took old new bytes none stands same_closed same_unsent reads fewer same_due same_source = record {
+  took old new bytes none stands same_closed same_unsent same_waits reads fewer same_due same_source = record {
     reads = λ reader came done is.
         let was = reading reader old came done none is in
         let r = reads reader came done was.0 in
@@ -98,6 +99,7 @@ module _ {A : Type 0} where
     closed = same_closed;
     end = stands ∙ ap (λ e. settled_now e new) (sym none);
     fewer = λ waits due. fewer (unmet_then old.end (is_met old.inbox.due) none waits) (is_met_then new.end (is_met new.inbox.due) due);
+    waits = same_waits;
     still = λ due.
         let met = is_met_then old.end (is_met old.inbox.due) due in
         still_due old new (ap is_met (same_due met) ∙ met) stands (same_due met) (same_source met);
@@ -106,8 +108,8 @@ module _ {A : Type 0} where
   -- ---- no more come
 
   pub closed_now : (old new : Peer A) → old.end ≡ None → new.end ≡ settled_now None new → new.closed ≡ true → new.inbox ≡ old.inbox
-      → new.outbox.unsent ≡ old.outbox.unsent → Closes old new
-  closed_now old new none stands now_closed same_inbox same_unsent = record {
+      → new.outbox.unsent ≡ old.outbox.unsent → new.waits ≡ old.waits → Closes old new
+  closed_now old new none stands now_closed same_inbox same_unsent same_waits = record {
     reads = λ reader came done is.
         let was = reading reader old came done none is in
         let r : IsReadTo reader new.inbox came done = subst (λ (i : Inbox A). IsReadTo reader i came done) (sym same_inbox) was.0 in
@@ -119,6 +121,7 @@ module _ {A : Type 0} where
     closed = now_closed;
     end = stands ∙ ap (λ e. settled_now e new) (sym none);
     inbox = same_inbox;
+    waits = same_waits;
   }
 
 -- ---- a command is carried out
@@ -156,12 +159,12 @@ quits reader met.Request bytes others is same = absurd (cc)
 quits reader met.Bad bytes others is same = absurd (cc)
 
 module _ {D A : Type 0} (facts : DeviceFacts D) (steps : Option ℕ) where
-  pub answered_now : (old new : Peer A) (store now : Seen D) → is_due_now old ≡ true → new.closed ≡ old.closed → new.end ≡ settled_now None new
+  pub answered_now : (old new : Peer A) (store now : Seen D) → is_due_now old ≡ true → new.closed ≡ old.closed → new.waits ≡ false → new.end ≡ settled_now None new
       → ((reader : Reader) (came : List ℕ) (done : List Command) (command : Command) → IsReadTo reader old.inbox came done → IsNext reader old.inbox.due old.inbox.script.source command
       → IsReadTo reader new.inbox came (done ++ command ∷ []))
       → (is_met new.inbox.due ≡ true → length new.inbox.waiting < length old.inbox.waiting)
       → AnswersPeer facts steps (command_of old) None old.outbox.unsent store new.outbox.unsent now → Serves facts steps None old store new now
-  answered_now old new store now due same_closed stands passes fewer answers = record {
+  answered_now old new store now due same_closed none_waits stands passes fewer answers = record {
     answers = answers;
     reads = λ reader came done taken is.
         let none = goes_on_still old.end _ due in
@@ -172,6 +175,7 @@ module _ {D A : Type 0} (facts : DeviceFacts D) (steps : Option ℕ) where
           few = is.few;
         };
     closed = same_closed;
+    waits = none_waits;
     end = stands;
     fewer = λ more. fewer (is_met_then new.end (is_met new.inbox.due) more);
   }
@@ -199,9 +203,9 @@ module _ {D A : Type 0} (facts : DeviceFacts D) (steps : Option ℕ) where
       let those = those_came reader old.inbox came done r in
       let b = behind_met reader old.inbox.due old.inbox.script.source those.0 is taken in (command_of old, b.0, those.1 ∙ ap (λ l. done ++ l) b.1)
 
-  pub ended_now : (end : PeerEnd) (old new : Peer A) (store now : Seen D) → is_due_now old ≡ true → new.closed ≡ old.closed → new.end ≡ Some end
+  pub ended_now : (end : PeerEnd) (old new : Peer A) (store now : Seen D) → is_due_now old ≡ true → new.closed ≡ old.closed → new.waits ≡ false → new.end ≡ Some end
       → AnswersPeer facts steps (command_of old) (Some end) old.outbox.unsent store new.outbox.unsent now → Serves facts steps (Some end) old store new now
-  ended_now end old new store now due same_closed ended answers = record {
+  ended_now end old new store now due same_closed none_waits ended answers = record {
     answers = answers;
     reads = λ reader came done taken is.
         let none = goes_on_still old.end _ due in
@@ -211,6 +215,7 @@ module _ {D A : Type 0} (facts : DeviceFacts D) (steps : Option ℕ) where
           few = is.few;
         };
     closed = same_closed;
+    waits = none_waits;
     end = ended;
     fewer = λ more. absurd (true≢false (sym more ∙ ap (λ (e : Option PeerEnd). is_due e (is_met new.inbox.due)) ended));
   }
@@ -219,11 +224,11 @@ module _ {D A : Type 0} (facts : DeviceFacts D) (steps : Option ℕ) where
   pub settled_so : (outcome : Option PeerEnd) (old mid new : Peer A) (store now : Seen D) → is_due_now old ≡ true → mid.inbox ≡ old.inbox → mid.closed ≡ old.closed
       → Settles outcome mid new → AnswersPeer facts steps (command_of old) outcome old.outbox.unsent store mid.outbox.unsent now → Serves facts steps outcome old store new now
   settled_so None old mid new store now due same_inbox same_closed s answers =
-      answered_now old new store now due (s.closed ∙ same_closed) s.end
+      answered_now old new store now due (s.closed ∙ same_closed) s.waits s.end
       (subst (λ (i : Inbox A). (reader : Reader) (came : List ℕ) (done : List Command) (command : Command) → IsReadTo reader i came done → IsNext reader i.due i.script.source command
       → IsReadTo reader new.inbox came (done ++ command ∷ [])) same_inbox (s.reads refl))
       (λ more. subst (λ (i : Inbox A). length new.inbox.waiting < length i.waiting) same_inbox (s.fewer refl more))
       (subst (λ l. AnswersPeer facts steps (command_of old) None old.outbox.unsent store l now) (sym s.unsent) answers)
   settled_so (Some end) old mid new store now due same_inbox same_closed s answers =
-      ended_now end old new store now due (s.closed ∙ same_closed) s.end
+      ended_now end old new store now due (s.closed ∙ same_closed) s.waits s.end
       (subst (λ l. AnswersPeer facts steps (command_of old) (Some end) old.outbox.unsent store l now) (sym s.unsent) answers)

@@ -83,6 +83,7 @@ pub record IsNew {A : Type 0} (peer : Peer A) : Type 0 where
   pub unsent : peer.outbox.unsent ≡ []
   pub open_still : peer.closed ≡ false
   pub goes_on : peer.end ≡ None
+  pub waits : peer.waits ≡ false
 
 -- ---- what each call makes of it
 
@@ -102,6 +103,7 @@ pub record Takes {A : Type 0} (old : Peer A) (bytes : List ℕ) (new : Peer A) :
   -- a command that is due then was found in what came
   pub fewer : is_due_now old ≡ false → is_due_now new ≡ true
       → length new.inbox.waiting < length old.inbox.waiting + length bytes
+  pub waits : new.waits ≡ old.waits
   pub still : is_due_now old ≡ true → IsStillDue old new
 
 -- no more bytes come
@@ -112,6 +114,7 @@ pub record Closes {A : Type 0} (old new : Peer A) : Type 0 where
   pub closed : new.closed ≡ true
   pub end : new.end ≡ settled_now old.end new
   pub inbox : new.inbox ≡ old.inbox
+  pub waits : new.waits ≡ old.waits
 
 -- `count` bytes of its answers were sent
 pub record Sends {A : Type 0} (old : Peer A) (count : ℕ) (new : Peer A) : Type 0 where
@@ -119,10 +122,19 @@ pub record Sends {A : Type 0} (old : Peer A) (count : ℕ) (new : Peer A) : Type
   pub inbox : new.inbox ≡ old.inbox
   pub closed : new.closed ≡ old.closed
   pub end : new.end ≡ old.end
+  pub waits : new.waits ≡ old.waits
 
 -- nothing of it changed
 abbrev pub Stays : {A : Type 0} → Peer A → Peer A → Type 0
 Stays old new = Sends old 0 new
+
+-- nothing of it changed, but that its source waits now until no submission of another peer is under way
+pub record PutsOff {A : Type 0} (old new : Peer A) : Type 0 where
+  pub unsent : new.outbox.unsent ≡ old.outbox.unsent
+  pub inbox : new.inbox ≡ old.inbox
+  pub closed : new.closed ≡ old.closed
+  pub end : new.end ≡ old.end
+  pub waits : new.waits ≡ true
 
 -- the command that is due, with the bytes of a source
 abbrev pub command_due : Met → List ℕ → Command
@@ -212,6 +224,7 @@ pub record Settles {A : Type 0} (outcome : Option PeerEnd) (old new : Peer A) : 
   pub unsent : new.outbox.unsent ≡ old.outbox.unsent
   pub reply : new.reply ≡ old.reply
   pub closed : new.closed ≡ old.closed
+  pub waits : new.waits ≡ false
   pub end : new.end ≡ end_after outcome (settled_now None new)
   pub reads : outcome ≡ None → (reader : Reader) (came : List ℕ) (done : List Command) (command : Command)
       → IsReadTo reader old.inbox came done → IsNext reader old.inbox.due old.inbox.script.source command
@@ -227,5 +240,6 @@ pub record Serves {D A : Type 0} (facts : DeviceFacts D) (steps : Option ℕ) (o
       → IsPeer reader old_peer came done
       → IsPeer reader new_peer came (done_after outcome done (command_of old_peer))
   pub closed : new_peer.closed ≡ old_peer.closed
+  pub waits : new_peer.waits ≡ false
   pub end : new_peer.end ≡ end_after outcome (settled_now None new_peer)
   pub fewer : is_due_now new_peer ≡ true → length new_peer.inbox.waiting < length old_peer.inbox.waiting

@@ -3,12 +3,12 @@ use Rattle.std.specs.Prelude.{◌≡◌, ◌≢◌, ◌⊎◌, ⊤, ℕ, ◌+◌
 use Rattle.std.specs.Prelude.{◌&&◌, ◌||◌, Bool, true, false, not, List, [], length, Option, None, Some}
 use Rattle.std.specs.Prelude.{IsSome, is_some, Result, Ok, Err, slice_index_or}
 use Rattle.war_types.specs.declared.settings.RawSettings.{RawSettings}
-use Rattle.{sector_disk.specs.Facts.DeviceFacts, hill_store.specs.Submission.SubmissionParts}
+use Rattle.{sector_disk.specs.Facts.DeviceFacts, hill_store.specs.{Seen.Assembled, Submission.SubmissionParts}}
 use Rattle.koth_protocol.specs.Commands.{kept_source}
 use Rattle.koth_session.specs.Judge.{Fight, GoesFurther, IsOfSource, Judged, fighting, without}
-use Rattle.koth_session.specs.Peer.{IsNew, Serves, Stays, asks_now, is_due_now, may_come_now, submits_now}
+use Rattle.koth_session.specs.Peer.{IsNew, PutsOff, Serves, Stays, asks_now, is_due_now, may_come_now, submits_now}
 use Rattle.koth_session.specs.{declared.end.PeerEnd.PeerEnd, declared.peers.NotConnected.NotConnected}
-use Rattle.koth_session.specs.{declared.peers.Step.Step, declared.peer.Peer.Peer}
+use Rattle.koth_session.specs.declared.{peer.{Peer.Peer, Unanswered.Unanswered}, peers.Step.Step}
 
 -- ---- peers by their numbers
 
@@ -78,15 +78,15 @@ abbrev pub ComesBefore : ℕ → ℕ → ℕ → Type 0
 ComesBefore start p n = ((start ≤ p) × (p < n)) ⊎ ((n < start) × ((p < n) ⊎ (start ≤ p)))
 
 -- Whether the turn may come to the peer of this number: while the submission of a peer is under way, only to that one,
--- and to those whose command that is due is no submission.
+-- and to those whose source does not wait.
 abbrev pub is_beside : Option ℕ → ℕ → Bool → Bool
-is_beside None n submits = true
-is_beside (Some k) n submits = (n == k) || not submits
+is_beside None n waits = true
+is_beside (Some k) n waits = (n == k) || not waits
 
 -- and a command of it is due
 abbrev pub may_serve_in : {A : Type 0} → Option ℕ → ℕ → Option (Peer A) → Bool
 may_serve_in busy n None = false
-may_serve_in busy n (Some peer) = is_due_now peer && is_beside busy n (submits_now peer)
+may_serve_in busy n (Some peer) = is_due_now peer && is_beside busy n peer.waits
 
 abbrev pub may_serve_at : {A : Type 0} → Option ℕ → Slots A → ℕ → Bool
 may_serve_at busy slots n = may_serve_in busy n (peer_at slots n)
@@ -144,17 +144,34 @@ pub record IsServed {D A : Type 0} (facts : DeviceFacts D) (steps : Option ℕ) 
   pub under_way : new.under_way ≡ without n old.under_way
   pub beside : IsSome new.under_way → new.store ≡ old.store
 
--- A turn of the peer of this number: its submission was begun, or went on by a step. The peer and the store are the
--- same.
+-- A turn of the peer of this number: its submission was begun, or went on by a step, and no other is under way. The
+-- peer and the store are the same.
 pub record IsStepped {D A : Type 0} (n : ℕ) (old_peer : Peer A) (old : Judged D) (new_peer : Peer A)
     (new : Judged D) : Type 0 where
   pub submits : submits_now old_peer ≡ true
+  pub own : without n old.under_way ≡ None
   pub stays : Stays old_peer new_peer
   pub store : new.store ≡ old.store
   pub submission : SubmissionParts
   pub under_way : new.under_way ≡ Some (n, submission)
   pub further : GoesFurther old.store.hill.settings old.under_way submission
   pub of_source : IsOfSource old.store.hill.settings (kept_source old_peer.inbox.script.source) submission
+
+-- A turn of the peer of this number while the submission of another is under way: its source gives a warrior, and
+-- waits. Nothing else changed.
+pub record IsPutOff {D A : Type 0} (n : ℕ) (old_peer : Peer A) (old : Judged D) (new_peer : Peer A)
+    (new : Judged D) : Type 0 where
+  pub submits : submits_now old_peer ≡ true
+  pub another : IsSome (without n old.under_way)
+  pub assembled : Assembled old.store (kept_source old_peer.inbox.script.source)
+  pub puts_off : PutsOff old_peer new_peer
+  pub same : new ≡ old
+
+-- A turn of the peer of this number after which its command is still due.
+abbrev pub IsUnanswered : {D A : Type 0} → Unanswered → ℕ → Peer A → Judged D → Peer A → Judged D
+    → Type 0
+IsUnanswered Unanswered.UnderWay n old_peer old new_peer new = IsStepped n old_peer old new_peer new
+IsUnanswered Unanswered.PutOff n old_peer old new_peer new = IsPutOff n old_peer old new_peer new
 
 -- One peer's turn: it is the first one from there on to which it may come, and no browser's request is due of it.
 pub record ServesOne {D A : Type 0} (R : Peer A → Peer A → Type 0) (n : ℕ) (old : Slots A) (start : ℕ)
@@ -185,6 +202,8 @@ ServesNext facts steps (Step.Served n) old start old_judge new next new_judge =
     × ServesOne (λ p q. IsServed facts steps outcome n p old_judge q new_judge) n old start old_judge new next
 ServesNext facts steps (Step.Stepped n) old start old_judge new next new_judge =
     ServesOne (λ p q. IsStepped n p old_judge q new_judge) n old start old_judge new next
+ServesNext facts steps (Step.PutOff n) old start old_judge new next new_judge =
+    ServesOne (λ p q. IsPutOff n p old_judge q new_judge) n old start old_judge new next
 ServesNext facts steps (Step.Asked n) old start old_judge new next new_judge =
     IsFirstDue (fighting old_judge.under_way) old start n × (asks_at old n ≡ true) × (new ≡ old)
     × (next ≡ start) × (new_judge ≡ old_judge)

@@ -205,21 +205,16 @@ fn is_short(reply: &Reply)
     ensures { length (reply_line reply.now) ≤ 96 }
 {
     match *reply {
-        Reply::Placed { entry, rank, score } => placed_is_short(entry, rank, score),
-        Reply::Fell { entry, score } => fell_is_short(entry, score),
-        Reply::Refused(fault) => refused_is_short(fault.line, fault.kind),
+        Reply::Placed { entry, rank, score } => are_short(entry, rank, score, 0, AsmKind::Memory),
+        Reply::Fell { entry, score } => are_short(entry, 0, score, 0, AsmKind::Memory),
+        Reply::Refused(fault) => are_short(0, 0, 0, fault.line, fault.kind),
         Reply::Memory | Reply::Worn | Reply::Disk | Reply::Reopen => {}
     }
 }
 
-fn placed_is_short(_entry: u64, _rank: u32, _score: u32)
-    ensures { length (reply_line (Reply.Placed _entry _rank _score)) ≤ 96 }
-{}
-
-fn fell_is_short(_entry: u64, _score: u32)
-    ensures { length (reply_line (Reply.Fell _entry _score)) ≤ 96 }
-{}
-
-fn refused_is_short(_line: u32, _kind: AsmKind)
-    ensures { length (reply_line (Reply.Refused (record { line = _line; kind = _kind }))) ≤ 96 }
+/// So are the lines of replies with these numbers and this kind of a fault.
+fn are_short(_entry: u64, _rank: u32, _score: u32, _line: u32, _kind: AsmKind)
+    ensures placed { length (reply_line (Reply.Placed _entry _rank _score)) ≤ 96 }
+    ensures fell { length (reply_line (Reply.Fell _entry _score)) ≤ 96 }
+    ensures refused { length (reply_line (Reply.Refused (record { line = _line; kind = _kind }))) ≤ 96 }
 {}

@@ -1,11 +1,11 @@
 //! The store that judges submissions, and the submission to it that is under way. It is fought in steps, between which others are served.
 
-ghost use Rattle.std.specs.Prelude.{◌≡◌, true, ℕ, Option, None, Some, IfErr, IfOk};
+ghost use Rattle.std.specs.Prelude.{◌≡◌, true, ℕ, Option, None, Some, is_some, IfErr, IfOk};
 ghost use Rattle.{hill_store.specs.Submission.IsSubmitting, koth_protocol.specs.Commands.kept_source};
-ghost use Rattle.koth_session.specs.{Judge.{fighting, judged, without, AreSubmitting, IsOfSource}, Peer.{is_due_now, submits_now}, Peers.{is_beside, IsOfIts, IsServed, IsStepped}};
+ghost use Rattle.koth_session.specs.{Judge.{fighting, judged, without, AreSubmitting, IsOfSource}, Peer.{is_due_now, submits_now}, Peers.{IsOfIts, IsServed, IsUnanswered}};
 
 use crate::end::PeerEnd;
-use crate::peer::Peer;
+use crate::peer::{Peer, Unanswered};
 use hill_store::{Store, Submission};
 use sector_disk::Device;
 use std::alloc::Allocator;
@@ -27,10 +27,6 @@ impl<D: Device, A: Allocator> Model for Judge<D, A> {
 
     ghost invariant = { λ j. AreSubmitting j.store j.under_way };
 }
-
-/// The submission of a peer is under way after its turn.
-#[derive(Clone, Copy)]
-pub(crate) struct UnderWay;
 
 impl<D: Device, A: Allocator> Judge<D, A> {
     /// A store to which no submission is under way.
@@ -75,18 +71,18 @@ impl<D: Device, A: Allocator> Judge<D, A> {
 
 impl<D: Device, A: Allocator + Copy> Judge<D, A> {
     /// Carries out the command that is due of a peer, or a part of its submission: its source is assembled, or as many rounds are played as
-    /// a step of the store has. The last step stores it.
+    /// a step of the store has. The last step stores it. While the submission of another is under way, a source is assembled, and waits unless
+    /// it is refused.
     pub(crate) fn serve(
         &mut self,
         alloc: A,
         steps: u64,
         number: usize,
         peer: &mut Peer<A>,
-    ) -> Result<Option<PeerEnd>, UnderWay>
+    ) -> Result<Option<PeerEnd>, Unanswered>
         requires due { is_due_now peer.old ≡ true }
-        requires beside { is_beside (fighting self.old.under_way) number (submits_now peer.old) ≡ true }
         ensures served { IsOfIts number peer.old self.old → IfOk result (λ outcome. IsServed D.facts (Some steps) outcome number peer.old self.old peer.new self.new) }
-        ensures stepped { IsOfIts number peer.old self.old → IfErr result (λ on. IsStepped number peer.old self.old peer.new self.new) }
+        ensures unanswered { IsOfIts number peer.old self.old → IfErr result (λ why. IsUnanswered why number peer.old self.old peer.new self.new) }
     {
         serve_at(
             alloc,
@@ -106,6 +102,16 @@ fn number_of<A: Allocator>(under_way: &Option<(usize, Submission<A>)>) -> Option
     match under_way {
         Some((number, _)) => Some(*number),
         None => None,
+    }
+}
+
+/// Whether the submission of another peer than this is under way.
+fn is_anothers<A: Allocator>(number: usize, under_way: &Option<(usize, Submission<A>)>) -> bool
+    ensures { result ≡ is_some (without number under_way.now) }
+{
+    match under_way {
+        Some((other, _)) => number != *other,
+        None => false,
     }
 }
 
@@ -130,18 +136,20 @@ fn serve_at<D: Device, A: Allocator + Copy>(
     peer: &mut Peer<A>,
     store: &mut Store<D, A>,
     under_way: &mut Option<(usize, Submission<A>)>,
-) -> Result<Option<PeerEnd>, UnderWay>
+) -> Result<Option<PeerEnd>, Unanswered>
     requires due { is_due_now peer.old ≡ true }
-    requires beside { is_beside (fighting under_way.old) number (submits_now peer.old) ≡ true }
     requires submitting { AreSubmitting store.old under_way.old }
     ensures submitting { AreSubmitting store.new under_way.new }
     ensures served { IsOfIts number peer.old (judged store.old under_way.old)
         → IfOk result (λ outcome. IsServed D.facts (Some steps) outcome number peer.old (judged store.old under_way.old) peer.new (judged store.new under_way.new)) }
-    ensures stepped { IsOfIts number peer.old (judged store.old under_way.old)
-        → IfErr result (λ on. IsStepped number peer.old (judged store.old under_way.old) peer.new (judged store.new under_way.new)) }
+    ensures unanswered { IsOfIts number peer.old (judged store.old under_way.old)
+        → IfErr result (λ why. IsUnanswered why number peer.old (judged store.old under_way.old) peer.new (judged store.new under_way.new)) }
 {
     if !peer.submits() {
         return Ok(peer.tell(alloc, store));
+    }
+    if is_anothers(number, under_way) {
+        return peer.put_off(steps, store);
     }
     match under_way.take() {
         Some((_, submission)) => fight_on(number, peer, store, under_way, submission),
@@ -156,18 +164,18 @@ fn begin<D: Device, A: Allocator + Copy>(
     peer: &mut Peer<A>,
     store: &Store<D, A>,
     under_way: &mut Option<(usize, Submission<A>)>,
-) -> Result<Option<PeerEnd>, UnderWay>
+) -> Result<Option<PeerEnd>, Unanswered>
     requires due { is_due_now peer.old ≡ true }
     requires submits { submits_now peer.old ≡ true }
     requires free { under_way.old ≡ None }
     ensures submitting { AreSubmitting store.now under_way.new }
     ensures served { IfOk result (λ outcome. IsServed D.facts (Some steps) outcome number peer.old (judged store.now None) peer.new (judged store.now under_way.new)) }
-    ensures stepped { IfErr result (λ on. IsStepped number peer.old (judged store.now None) peer.new (judged store.now under_way.new)) }
+    ensures unanswered { IfErr result (λ why. IsUnanswered why number peer.old (judged store.now None) peer.new (judged store.now under_way.new)) }
 {
     match peer.begin(steps, store) {
         Ok(submission) => {
             *under_way = Some((number, submission));
-            Err(UnderWay)
+            Err(Unanswered::UnderWay)
         }
         Err(outcome) => Ok(outcome),
     }
@@ -180,7 +188,7 @@ fn fight_on<D: Device, A: Allocator + Copy>(
     store: &mut Store<D, A>,
     under_way: &mut Option<(usize, Submission<A>)>,
     submission: Submission<A>,
-) -> Result<Option<PeerEnd>, UnderWay>
+) -> Result<Option<PeerEnd>, Unanswered>
     requires due { is_due_now peer.old ≡ true }
     requires submits { submits_now peer.old ≡ true }
     requires free { under_way.old ≡ None }
@@ -188,15 +196,15 @@ fn fight_on<D: Device, A: Allocator + Copy>(
     ensures submitting { AreSubmitting store.new under_way.new }
     ensures served { (steps : Option ℕ) → IsOfSource store.old.hill.settings (kept_source peer.old.inbox.script.source) submission
         → IfOk result (λ outcome. IsServed D.facts steps outcome number peer.old (judged store.old (Some (number, submission))) peer.new (judged store.new under_way.new)) }
-    ensures stepped { IsOfSource store.old.hill.settings (kept_source peer.old.inbox.script.source) submission
-        → IfErr result (λ on. IsStepped number peer.old (judged store.old (Some (number, submission))) peer.new (judged store.new under_way.new)) }
+    ensures unanswered { IsOfSource store.old.hill.settings (kept_source peer.old.inbox.script.source) submission
+        → IfErr result (λ why. IsUnanswered why number peer.old (judged store.old (Some (number, submission))) peer.new (judged store.new under_way.new)) }
 {
     let mut submission = submission;
     match store.step(&mut submission) {
         Some(verdict) => Ok(peer.finish(store, submission, &verdict)),
         None => {
             *under_way = Some((number, submission));
-            Err(UnderWay)
+            Err(Unanswered::UnderWay)
         }
     }
 }

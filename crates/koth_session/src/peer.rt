@@ -1,8 +1,9 @@
 //! One session as a value: bytes come in, commands are carried out one at a time, and answers wait until they are sent.
 
 ghost use Rattle.std.specs.Prelude.{◌≡◌, ◌+◌, ◌≤◌, true, false, ℕ, Option, length, None, Some, IfErr, IfOk};
-ghost use Rattle.{koth_hill.specs.Kept.verdict_kept, hill_store.specs.Submission.{IsSubmitting, MayChallenge}, koth_protocol.specs.Commands.kept_source, koth_session.specs.Judge.IsOfSource};
-ghost use Rattle.koth_session.specs.Peer.{asks_now, is_due_now, may_come_now, settled_now, submits_now, Closes, IsNew, IsReplied, Sends, Serves, Settles, Stays, Takes};
+ghost use Rattle.{koth_hill.specs.Kept.verdict_kept, hill_store.specs.{Seen.Assembled, Submission.{IsSubmitting, MayChallenge}}, koth_protocol.specs.Commands.kept_source, koth_session.specs.Judge.IsOfSource};
+ghost use Rattle.koth_session.specs.Peer.{asks_now, is_due_now, may_come_now, settled_now, submits_now, Closes, IsNew, IsReplied, PutsOff, Sends, Serves, Settles, Stays, Takes};
+ghost use Rattle.koth_session.specs.declared.peer.Unanswered.TheVariants as unanswered;
 
 use crate::answers::{answer, begin, finish, tell};
 use crate::end::PeerEnd;
@@ -21,8 +22,19 @@ pub struct Peer<A: Allocator> {
     outbox: Outbox<A>,
     closed: bool,
     end: Option<PeerEnd>,
+    /// Whether the command that is due is a source that gives a warrior, and was put off for the submission of another peer.
+    pub(crate) waits: bool,
     /// The reply to the command that was carried out last, if that was a submission.
     reply: Option<Reply>,
+}
+
+/// Why the command of a peer is still due after its turn.
+#[derive(Clone, Copy)]
+pub(crate) enum Unanswered {
+    /// Its submission is under way.
+    UnderWay,
+    /// Its source gives a warrior, and waits until the submission of another peer is over.
+    PutOff,
 }
 
 impl<A: Allocator + Copy> Peer<A> {
@@ -35,6 +47,7 @@ impl<A: Allocator + Copy> Peer<A> {
             outbox: Outbox::new(alloc)?,
             closed: false,
             end: None,
+            waits: false,
             reply: None,
         })
     }
@@ -106,6 +119,29 @@ impl<A: Allocator + Copy> Peer<A> {
                 self.settle(outcome);
                 Err(outcome)
             }
+        }
+    }
+
+    /// Assembles the source that is due, in these steps, while the submission of another peer is under way. If it gives a warrior, it is put
+    /// off, and `Err` says so. Else its command was carried out, or it ended the session, as `serve` has it.
+    pub(crate) fn put_off<D: Device>(
+        &mut self,
+        steps: u64,
+        store: &Store<D, A>,
+    ) -> Result<Option<PeerEnd>, Unanswered>
+        requires due { is_due_now self.old ≡ true }
+        requires submits { submits_now self.old ≡ true }
+        ensures serves { IfOk result (λ outcome. Serves D.facts (Some steps) outcome self.old store.now self.new store.now) }
+        ensures put_off { IfErr result (λ why. why ≡ unanswered.PutOff) }
+        ensures assembled { IfErr result (λ why. Assembled store.now (kept_source self.old.inbox.script.source)) }
+        ensures puts_off { IfErr result (λ why. PutsOff self.old self.new) }
+    {
+        match self.begin(steps, store) {
+            Ok(_submission) => {
+                self.waits = true;
+                Err(Unanswered::PutOff)
+            }
+            Err(outcome) => Ok(outcome),
         }
     }
 
@@ -222,6 +258,7 @@ impl<A: Allocator> Peer<A> {
     fn settle(&mut self, outcome: Option<PeerEnd>)
         ensures { Settles outcome self.old self.new }
     {
+        self.waits = false;
         match outcome {
             None => {
                 self.inbox.pass();

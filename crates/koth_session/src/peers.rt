@@ -2,11 +2,11 @@
 
 ghost use Rattle.std.specs.Prelude.{◌≡◌, ℕ, ◌≤◌, true, length, option_copied, None, Some, IfErr, IfOk};
 ghost use Rattle.koth_session.specs.{Judge.{fighting, without}, Peer.{Closes, Sends, Takes}, Peers.{end_in, is_due_at, is_finished_in, may_come_at, may_come_in, may_serve_in}};
-ghost use Rattle.koth_session.specs.Peers.{peer_at, step_after, unsent_at, unsent_in, Connects, IsOfIn, IsOfOne, IsServed, IsStepped, Moves, MovesAt, OnlyAt, ServesNext};
+ghost use Rattle.koth_session.specs.Peers.{peer_at, step_after, unsent_at, unsent_in, Connects, IsOfIn, IsOfOne, IsServed, IsUnanswered, Moves, MovesAt, OnlyAt, ServesNext};
 
 use crate::end::PeerEnd;
-use crate::judge::{Judge, UnderWay};
-use crate::peer::Peer;
+use crate::judge::Judge;
+use crate::peer::{Peer, Unanswered};
 use crate::turns::{asks, first_free, next_due};
 use hill_store::Reply;
 use sector_disk::Device;
@@ -30,6 +30,9 @@ pub enum Step {
     Served(usize),
     /// A submission of this peer was begun, or some rounds of it were played: it is under way, and its command is still due.
     Stepped(usize),
+    /// A source of this peer was assembled while the submission of another is under way. It gives a warrior, so it waits until that is over: its
+    /// command is still due.
+    PutOff(usize),
     /// The turn is this peer's, and a browser's request is due of it, which was not carried out: have it leave.
     Asked(usize),
     /// The device failed in a submission of this peer, whose session has ended: close the store, and open it again.
@@ -81,9 +84,9 @@ impl<A: Allocator + Copy> Peers<A> {
     }
 
     /// Carries out one command at most: that of the first peer to which the turn may come, beginning after the peer served last and going
-    /// round. Of a submission that is to be fought one step is made, and while it is under way the turn comes to its peer, and to those whose
-    /// command that is due is no submission. A browser's request is not carried out, and the turn stays where it is until that peer has left.
-    /// Nor is a source whose assembly spends these steps.
+    /// round. Of a submission that is to be fought one step is made. While it is under way the turn comes to the others too: a source of theirs
+    /// is refused, or put off, and after that the turn comes to its peer once no submission is under way. A browser's request is not carried out,
+    /// and the turn stays where it is until that peer has left. Nor is a source whose assembly spends these steps.
     pub fn serve_next<D: Device>(&mut self, steps: u64, judge: &mut Judge<D, A>) -> Step
         ensures serves { IsOfOne judge.old.store.hill.settings self.old.slots.items judge.old.under_way
             → ServesNext D.facts (Some steps) result self.old.slots.items self.old.next judge.old self.new.slots.items self.new.next judge.new }
@@ -99,7 +102,8 @@ impl<A: Allocator + Copy> Peers<A> {
         self.next = number + 1;
         match serve_at(self.alloc, steps, number, &mut self.slots[number], judge) {
             Ok(outcome) => step_after(outcome, number),
-            Err(UnderWay) => Step::Stepped(number),
+            Err(Unanswered::UnderWay) => Step::Stepped(number),
+            Err(Unanswered::PutOff) => Step::PutOff(number),
         }
     }
 }
@@ -254,10 +258,10 @@ fn serve_at<D: Device, A: Allocator + Copy>(
     number: usize,
     slot: &mut Option<Peer<A>>,
     judge: &mut Judge<D, A>,
-) -> Result<Option<PeerEnd>, UnderWay>
+) -> Result<Option<PeerEnd>, Unanswered>
     requires { may_serve_in (fighting judge.old.under_way) number slot.old ≡ true }
     ensures served { IsOfIn number slot.old judge.old → IfOk result (λ outcome. Moves (λ p q. IsServed D.facts (Some steps) outcome number p judge.old q judge.new) slot.old slot.new) }
-    ensures stepped { IsOfIn number slot.old judge.old → IfErr result (λ on. Moves (λ p q. IsStepped number p judge.old q judge.new) slot.old slot.new) }
+    ensures unanswered { IsOfIn number slot.old judge.old → IfErr result (λ why. Moves (λ p q. IsUnanswered why number p judge.old q judge.new) slot.old slot.new) }
 {
     match slot {
         Some(peer) => judge.serve(alloc, steps, number, peer),

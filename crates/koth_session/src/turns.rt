@@ -45,17 +45,17 @@ fn may_serve<A: Allocator>(busy: Option<usize>, number: usize, slot: &Option<Pee
     ensures { result ≡ may_serve_in busy number slot.now }
 {
     match slot {
-        Some(peer) => peer.is_due() && is_beside(busy, number, peer.submits()),
+        Some(peer) => peer.is_due() && is_beside(busy, number, peer.waits),
         None => false,
     }
 }
 
-/// Whether the turn may come to a peer with this number beside the submission that is under way.
-fn is_beside(busy: Option<usize>, number: usize, submits: bool) -> bool
-    ensures { result ≡ is_beside busy number submits }
+/// Whether the turn may come to a peer with this number beside the submission that is under way, by whether its source waits.
+fn is_beside(busy: Option<usize>, number: usize, waits: bool) -> bool
+    ensures { result ≡ is_beside busy number waits }
 {
     match busy {
-        Some(other) => number == other || !submits,
+        Some(other) => number == other || !waits,
         None => true,
     }
 }

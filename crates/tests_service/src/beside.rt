@@ -10,7 +10,7 @@ use std::process::Abort;
 use tests_fixtures::Refusing;
 
 /// Steps serve these, one after another.
-fn step_on<D: Device, A: Allocator + Copy>(
+pub(crate) fn step_on<D: Device, A: Allocator + Copy>(
     rt: &impl Abort,
     peers: &mut Peers<A>,
     judge: &mut Judge<D, A>,
@@ -21,7 +21,7 @@ fn step_on<D: Device, A: Allocator + Copy>(
     }
 }
 
-fn connect_three<A: Allocator + Copy>(rt: &impl Abort, peers: &mut Peers<A>) {
+pub(crate) fn connect_three<A: Allocator + Copy>(rt: &impl Abort, peers: &mut Peers<A>) {
     for number in 0..3 {
         connect(rt, peers, Ok(number));
     }

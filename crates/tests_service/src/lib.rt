@@ -6,7 +6,7 @@
 //!   those of `tests_fixtures`, the hills those of `tests_stores`;
 //! - `compare`: what is compared, each by a function;
 //! - `sessions`: what a session answers, and how it ends if a stream, the device or memory fails;
-//! - `peers`: sessions of several peers at once; `beside`: those that are served while a submission is under way;
+//! - `peers`: sessions of several peers at once; `beside`: those that are served while a submission is under way; `put_off`: their sources;
 //! - `services`: services over sockets that do what a test wants, and over those of the system.
 //!
 //! What they expect was counted by hand. A test here must not show what a contract could say instead.
@@ -20,6 +20,8 @@ mod calls;
 mod compare;
 #[cfg(test)]
 mod peers;
+#[cfg(test)]
+mod put_off;
 #[cfg(test)]
 mod services;
 #[cfg(test)]

@@ -23,7 +23,7 @@ pub(crate) fn connect<A: Allocator + Copy>(
     assert_eq!(rt; peers.connect(), number);
 }
 
-/// A step serves this, after the steps of a submission that is under way.
+/// A step serves this, after the steps of a submission that is under way, and after sources that are put off meanwhile.
 pub(crate) fn serve<D: Device, A: Allocator + Copy>(
     rt: &impl Abort,
     peers: &mut Peers<A>,
@@ -43,7 +43,7 @@ fn serve_within<D: Device, A: Allocator + Copy>(
 ) {
     for _step in 0..100 {
         let found = peers.serve_next(steps, judge);
-        if !matches!(found, Step::Stepped(_)) {
+        if !matches!(found, Step::Stepped(_) | Step::PutOff(_)) {
             expect_step(rt, found, step);
             return;
         }

@@ -11,5 +11,8 @@ returns-in-Served g c = rw c.in-Served.is refl
 pub returns-in-Stepped : goal.returns-in-Stepped
 returns-in-Stepped g c = rw c.in-Stepped.is refl
 
+pub returns-in-PutOff : goal.returns-in-PutOff
+returns-in-PutOff g c = rw c.in-PutOff.is refl
+
 pub returns-in-StoreFailed : goal.returns-in-StoreFailed
 returns-in-StoreFailed g c = rw c.in-StoreFailed.is c.reopened.ensures

@@ -1,5 +1,5 @@
--- The time was told, and a command was carried out, or a step of a submission was made.
-use Rattle.{std.proofs.Common.refl, koth_service.specs.Standing.peers_of, koth_service.proofs.{Servings.{asked, cut_off, nobody, served, stepped}, Steps.ticked}}
+-- The time was told, and a command was carried out, a step of a submission was made, or a source was put off.
+use Rattle.{std.proofs.Common.refl, koth_service.specs.Standing.peers_of, koth_service.proofs.{Servings.{asked, cut_off, nobody, put_off, served, stepped}, Steps.ticked}}
 use Rattle.koth_service.proofs.serving.serve_one.Goals as goal
 
 pub returns-in-Nobody-step-clause-served : goal.returns-in-Nobody-step-clause-served
@@ -34,6 +34,14 @@ returns-in-Stepped-clause-served g c = λ start browsers on.
     let serves = c.serve_next-step.ensures.serves ticks.1.of_one in
     rw c.in-Stepped.is (stepped g.S.Sockets.happened g.D.Device.facts (g.H.Host.shows c.args.host.now) start browsers c.now.new.self c.steps.result c.steps.ensures c.in-Stepped.field-0 _ c.serve_next-step.new.self.slots.items
     c.serve_next-step.new.self.next c.args.desk.now.judge c.serve_next-step.new.judge refl (rw c.in-Stepped.is at serves) (c.serve_next-step.ensures.of_one ticks.1.of_one) ticks)
+
+pub returns-in-PutOff-clause-served : goal.returns-in-PutOff-clause-served
+returns-in-PutOff-clause-served g c = λ start browsers on.
+    let ticks = ticked g.S.Sockets.happened g.D.Device.facts (g.H.Host.shows c.args.host.now) start browsers c.args.sockets.now c.now.new.self (peers_of c.args.desk.now) c.args.desk.now.judge.store
+    c.now.result c.max-desk.result c.now.ensures c.max-desk.ensures on in
+    let serves = c.serve_next-step.ensures.serves ticks.1.of_one in
+    rw c.in-PutOff.is (put_off g.S.Sockets.happened g.D.Device.facts (g.H.Host.shows c.args.host.now) start browsers c.now.new.self c.steps.result c.steps.ensures c.in-PutOff.field-0 _ c.serve_next-step.new.self.slots.items
+    c.serve_next-step.new.self.next c.args.desk.now.judge c.serve_next-step.new.judge refl (rw c.in-PutOff.is at serves) (c.serve_next-step.ensures.of_one ticks.1.of_one) ticks)
 
 pub returns-in-StoreFailed-clause-served : goal.returns-in-StoreFailed-clause-served
 returns-in-StoreFailed-clause-served g c = λ start browsers on.

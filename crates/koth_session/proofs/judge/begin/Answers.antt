@@ -2,9 +2,10 @@
 use Rattle.{std.proofs.Common.refl}
 use Rattle.koth_session.proofs.judge.begin.Goals as goal
 
-pub returns-in-Ok-clause-stepped : goal.returns-in-Ok-clause-stepped
-returns-in-Ok-clause-stepped g c = record {
+pub returns-in-Ok-clause-unanswered : goal.returns-in-Ok-clause-unanswered
+returns-in-Ok-clause-unanswered g c = record {
   submits = c.requires.submits;
+  own = refl;
   stays = c.in-Ok.ensures.stays;
   store = refl;
   submission = c.in-Ok.submission;

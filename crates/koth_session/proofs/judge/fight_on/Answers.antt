@@ -25,10 +25,11 @@ returns-in-Some-clause-served g c = λ steps of_source.
 pub returns-in-None-clause-submitting : goal.returns-in-None-clause-submitting
 returns-in-None-clause-submitting g c = subst (λ (s : Seen _). IsSubmitting s c.step.new.submission) (sym c.in-None.ensures.unchanged) c.in-None.ensures.submitting
 
-pub returns-in-None-clause-stepped : goal.returns-in-None-clause-stepped
-returns-in-None-clause-stepped g c = λ of_source. record {
+pub returns-in-None-clause-unanswered : goal.returns-in-None-clause-unanswered
+returns-in-None-clause-unanswered g c = λ of_source. record {
   submits = c.requires.submits;
-  stays = record { unsent = refl; inbox = refl; closed = refl; end = refl };
+  own = without_own c.args.number c.args.submission;
+  stays = record { unsent = refl; inbox = refl; closed = refl; end = refl; waits = refl };
   store = c.in-None.ensures.unchanged;
   submission = c.step.new.submission;
   under_way = refl;

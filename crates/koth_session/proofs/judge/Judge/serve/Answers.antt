@@ -1,10 +1,6 @@
 -- The fields are those of the value.
-use Rattle.{std.proofs.Common.{◌≡◌, IfErr, IfOk, Some, subst, sym, true}, koth_session.specs.{Judge.{Judged, fighting, judged}, Peer.submits_now, Peers.{IsOfIts, IsServed, IsStepped, is_beside}}}
+use Rattle.{std.proofs.Common.{IfErr, IfOk, Some, subst}, koth_session.specs.{Judge.{Judged, judged}, Peers.{IsOfIts, IsServed, IsUnanswered}}}
 use Rattle.koth_session.proofs.judge.Judge.serve.Goals as goal
-
-pub serve_at-requires-clause-beside : goal.serve_at-requires-clause-beside
-serve_at-requires-clause-beside g c =
-    subst (λ (j : Judged _). is_beside (fighting j.under_way) c.args.number (submits_now c.args.peer.now) ≡ true) (sym c.self.view_is) c.requires.beside
 
 pub serve_at-requires-clause-submitting : goal.serve_at-requires-clause-submitting
 serve_at-requires-clause-submitting g c = c.self.invariant
@@ -17,7 +13,7 @@ returns-clause-served g c =
     subst (λ (j : Judged _). IsOfIts c.args.number c.args.peer.now j → IfOk c.serve_at.result (λ outcome. IsServed g.D.Device.facts (Some c.args.steps) outcome c.args.number c.args.peer.now j c.serve_at.new.peer
     (judged c.serve_at.new.store c.serve_at.new.under_way))) c.self.view_is c.serve_at.ensures.served
 
-pub returns-clause-stepped : goal.returns-clause-stepped
-returns-clause-stepped g c =
-    subst (λ (j : Judged _). IsOfIts c.args.number c.args.peer.now j → IfErr c.serve_at.result (λ on. IsStepped c.args.number c.args.peer.now j c.serve_at.new.peer
-    (judged c.serve_at.new.store c.serve_at.new.under_way))) c.self.view_is c.serve_at.ensures.stepped
+pub returns-clause-unanswered : goal.returns-clause-unanswered
+returns-clause-unanswered g c =
+    subst (λ (j : Judged _). IsOfIts c.args.number c.args.peer.now j → IfErr c.serve_at.result (λ why. IsUnanswered why c.args.number c.args.peer.now j c.serve_at.new.peer
+    (judged c.serve_at.new.store c.serve_at.new.under_way))) c.self.view_is c.serve_at.ensures.unanswered

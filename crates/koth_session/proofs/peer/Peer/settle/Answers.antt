@@ -8,6 +8,7 @@ returns-in-None g c =
       unsent = refl;
       reply = refl;
       closed = refl;
+      waits = refl;
       end = c.settled-self.ensures;
       reads = λ none. c.pass.ensures.reads;
       fewer = λ none. c.pass.ensures.fewer;
@@ -15,4 +16,4 @@ returns-in-None g c =
 
 pub returns-in-Some : goal.returns-in-Some
 returns-in-Some g c =
-    rw c.in-Some.is (record { unsent = refl; reply = refl; closed = refl; end = refl; reads = λ none. absurd (cc); fewer = λ none. absurd (cc) })
+    rw c.in-Some.is (record { unsent = refl; reply = refl; closed = refl; waits = refl; end = refl; reads = λ none. absurd (cc); fewer = λ none. absurd (cc) })
