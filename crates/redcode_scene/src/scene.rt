@@ -47,7 +47,7 @@ impl<'s, A: Allocator + Copy> Scene<'s, A> {
     }
 
     /// How the line of this number stands in the source, if it says something.
-    pub(crate) fn row(&self, number: u32) -> Option<Row<'_, 's>> {
+    pub fn row(&self, number: u32) -> Option<Row<'_, 's>> {
         for line in &self.lines {
             if line.number() == number {
                 let reading = line.reading();
@@ -59,7 +59,7 @@ impl<'s, A: Allocator + Copy> Scene<'s, A> {
     }
 
     /// The whole of a line.
-    pub(crate) fn whole(&self, number: u32) -> Span {
+    pub fn whole(&self, number: u32) -> Span {
         match self.row(number) {
             Some(row) => row.whole(),
             None => whole(line_text(self.source, number)),
@@ -69,7 +69,7 @@ impl<'s, A: Allocator + Copy> Scene<'s, A> {
 
 /// A line as it stands in the source.
 #[derive(Clone, Copy)]
-pub(crate) struct Row<'l, 's> {
+pub struct Row<'l, 's> {
     pub reading: Reading<'l, 's>,
     /// Bytes of the line before the text that its tokens come from.
     pub shift: u32,
@@ -77,20 +77,28 @@ pub(crate) struct Row<'l, 's> {
 
 impl<'l, 's> Row<'l, 's> {
     /// The place of one of its tokens.
-    pub(crate) fn span(&self, token: &Token<'_>) -> Span {
+    pub fn span(&self, token: &Token<'_>) -> Span {
         span_of(self.shift, token)
     }
 
     /// From the first of some of its tokens to the last; the whole statement if there are none.
-    pub(crate) fn spans(&self, tokens: &[Token<'_>]) -> Span {
+    pub fn spans(&self, tokens: &[Token<'_>]) -> Span {
         match spans_of(self.shift, tokens) {
             Some(span) => span,
             None => self.whole(),
         }
     }
 
+    /// The place of its word, or of the whole line if it has none.
+    pub fn word(&self) -> Span {
+        match (self.reading.word, self.reading.tokens) {
+            (Some(_), [word, ..]) => self.span(word),
+            _ => self.whole(),
+        }
+    }
+
     /// From its first token to its last; all of the line if it has none.
-    pub(crate) fn whole(&self) -> Span {
+    pub fn whole(&self) -> Span {
         let front = spans_of(self.shift, self.reading.front);
         let others = spans_of(self.shift, self.reading.tokens);
         match (front, others) {

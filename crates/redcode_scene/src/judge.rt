@@ -12,7 +12,7 @@ use war_types::{AsmFault, AsmKind, Settings};
 const FAULT_LIMIT: usize = 100;
 
 /// What names stand for on a line.
-pub(crate) fn labels_on<'e, 's, A: Allocator + Copy>(
+pub fn labels_on<'e, 's, A: Allocator + Copy>(
     expanded: &'e Expanded<'s, A>,
     settings: &'e Settings,
     line: Line,
@@ -79,7 +79,7 @@ fn is_told(faults: &[AsmFault], line: u32) -> bool {
 
 /// A line of the expanded source with a fault.
 #[derive(Clone, Copy)]
-pub(crate) struct Faulty<'e, 's> {
+pub struct Faulty<'e, 's> {
     pub line: Line,
     /// As they stand in `Expanded`.
     pub tokens: &'e [Token<'s>],
@@ -88,7 +88,7 @@ pub(crate) struct Faulty<'e, 's> {
 }
 
 /// The first line of the expanded source that has this fault.
-pub(crate) fn faulty_line<'e, 's, A: Allocator + Copy>(
+pub fn faulty_line<'e, 's, A: Allocator + Copy>(
     expanded: &'e Expanded<'s, A>,
     settings: &Settings,
     fault: AsmFault,
