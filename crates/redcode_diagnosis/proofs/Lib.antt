@@ -1,2 +1,3 @@
 mod Growing
 mod Pushed
+mod Told

@@ -1,12 +1,12 @@
 //! What else is refused of a source in which a name is defined twice.
 
-ghost use Rattle.std.specs.Prelude.{OnOk};
-ghost use Rattle.redcode_diagnosis.specs.Further.{PutsFurther};
+ghost use Rattle.std.specs.Prelude.{◌≡◌, OnOk};
+ghost use Rattle.redcode_diagnosis.specs.{Further.{PutsFurther}, Told.{is_twice}};
 
-use crate::diagnosis::{Diagnosis, faults_from, is_memory, told};
+use crate::diagnosis::{Diagnosis, is_memory, told};
 use bumpalo::Bump;
 use redcode_asm::assemble;
-use redcode_blame::Scene;
+use redcode_blame::{Scene, told_faults};
 use std::alloc::{AllocError, Allocator};
 use war_types::{AsmFault, AsmKind, Settings};
 
@@ -25,7 +25,9 @@ struct Place {
 }
 
 /// Whether a fault is that a name is defined twice.
-pub(crate) fn is_twice(kind: AsmKind) -> bool {
+pub(crate) fn is_twice(kind: AsmKind) -> bool
+    ensures { result ≡ is_twice kind }
+{
     matches!(kind, AsmKind::DuplicateName)
 }
 
@@ -151,7 +153,7 @@ fn put_from<A: Allocator + Copy>(
 ) -> Result<(), AllocError>
     ensures { OnOk result (PutsFurther source.now all.old.items all.new.items) }
 {
-    let faults = faults_from(scene, first)?;
+    let faults = told_faults(scene, first)?;
     put_all(scene, source, faults.as_slice(), all)
 }
 

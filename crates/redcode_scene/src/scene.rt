@@ -1,5 +1,8 @@
 //! What is known of a source that is refused.
 
+ghost use Rattle.std.specs.Prelude.{IfOk};
+ghost use Rattle.redcode_scene.specs.Faults.{KnowsOf};
+
 use bumpalo::Bump;
 use redcode_expand::{Expanded, SOURCE_LIMIT, expand};
 use redcode_lines::{
@@ -26,13 +29,19 @@ pub struct Scene<'s, A: Allocator + Copy> {
 }
 
 impl<'s, A: Allocator + Copy> Scene<'s, A> {
+    ghost use Rattle.std.specs.Prelude.{◌≡◌, IfOk};
+    ghost use Rattle.redcode_scene.specs.Faults.{KnowsOf};
+
     /// What is known of a source. It fails when memory runs out.
     pub fn new(
         alloc: A,
         region: &'s Bump<A>,
         source: &'s [u8],
         settings: &'s Settings,
-    ) -> Result<Scene<'s, A>, AllocError> {
+    ) -> Result<Scene<'s, A>, AllocError>
+        ensures settings { IfOk result (λ scene. scene.settings.now ≡ settings.entry.now) }
+        ensures knows { IfOk result (λ scene. KnowsOf settings.entry.now source.entry.now scene.expanded) }
+    {
         let lines = lines_of(alloc, source)?;
         match expanded_of(alloc, region, source, settings) {
             Ok(expanded) => Ok(Scene {
@@ -130,7 +139,9 @@ fn expanded_of<'s, A: Allocator + Copy>(
     region: &'s Bump<A>,
     source: &'s [u8],
     settings: &Settings,
-) -> Result<Option<Expanded<'s, A>>, AllocError> {
+) -> Result<Option<Expanded<'s, A>>, AllocError>
+    ensures { IfOk result (λ expanded. KnowsOf settings.now source.entry.now expanded) }
+{
     match expand(alloc, region, source, settings) {
         Ok(expanded) => Ok(Some(expanded)),
         Err(fault) => match fault.kind {
