@@ -44,7 +44,7 @@ fn every_prefix(rt: HostRuntime) {
 /// `reads` reads of `most` bytes, each of which fails once.
 fn expect_reads(rt: &(impl Abort + AllocGlobal), most: usize, reads: u64) {
     for fails_at in 1..=reads {
-        let came = reads_before(fails_at).saturating_mul(most);
+        let came = (fails_at.saturating_sub(1) as usize).saturating_mul(most);
         let lines = reader(LINES, most, fails_at);
         expect_session(rt, lines, answers(came), SessionEnd::ReadFault, 1);
     }
@@ -59,10 +59,6 @@ fn a_read_that_fails(rt: HostRuntime) {
     expect_reads(&rt, 1, 28);
     let lines = reader(b"SHOW\n", 5, 2);
     expect_session(&rt, lines, ".\n", SessionEnd::ReadFault, 1);
-}
-
-fn reads_before(read: u64) -> usize {
-    read.saturating_sub(1) as usize
 }
 
 /// A session of one warrior whose output takes `room` bytes, `most` at a time, and then is full. It takes the first bytes of the
@@ -102,15 +98,14 @@ fn end_when_full<D: Device>(
     drop(input);
     let faults = output.faults();
     let taken = output.into_inner().taken;
-    expect_begun(rt, answers, room, taken.as_slice());
+    expect_length(rt, taken.len(), room);
+    expect(
+        rt,
+        answers.as_bytes().starts_with(taken.as_slice()),
+        answers,
+    );
     drop(taken);
     (ended, faults)
-}
-
-/// The first `room` bytes of the answers were taken.
-fn expect_begun(rt: &impl Abort, answers: &str, room: usize, taken: &[u8]) {
-    expect_length(rt, taken.len(), room);
-    expect(rt, answers.as_bytes().starts_with(taken), answers);
 }
 
 /// A session ended as is due, and its output has the faults that are due.
