@@ -39,8 +39,10 @@ pub enum ServiceFault<F> {
 /// that waits: of those without a command that is due, the one that has gone longest without a whole line, if that is 60 seconds, or 2 if no
 /// byte of it came. A peer is disconnected when its session has ended and its answers went out, 60 seconds after the last byte in or out unless
 /// a command of it is due, as soon as its answers have no room, or at a request of HTTP in place of a command: no command after that is carried
-/// out. If the device fails in a submission, the store is closed, and the host opens the hill again. Beside the peers browsers are served: each
-/// is answered one request, with a page of the hill that stands then. `served` speaks of peers and of browsers.
+/// out. If the device fails in a submission, the store is closed, and the host opens the hill again. Submissions are fought one after another,
+/// in steps: between two of these other commands are carried out, and sources of other peers are refused, or put off if they give a warrior.
+/// Beside the peers browsers are served: each is answered one request, with a page of the hill that stands then. `served` speaks of peers and
+/// of browsers.
 pub fn serve_peers<S: Sockets, D: Device + Drop, A: Allocator + Copy, H: Host<D, A>, E: LogWrite>(
     alloc: A,
     sockets: &mut S,

@@ -11,8 +11,8 @@ use koth_session::Step;
 use sector_disk::Device;
 use std::alloc::Allocator;
 
-/// Carries out one command at most, or a step of a submission, and has the host report what a submission was answered. A peer that sent a request in place of a command
-/// is disconnected.
+/// Carries out one command at most, makes a step of a submission, or puts a source off, and has the host report what a submission was answered.
+/// A peer that sent a request in place of a command is disconnected.
 pub(crate) fn serve_one<S: Sockets, D: Device, A: Allocator + Copy, H: Host<D, A>, E: LogWrite>(
     desk: &mut Desk<D, A>,
     sockets: &mut S,
