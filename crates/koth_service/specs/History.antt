@@ -72,8 +72,8 @@ pub record Fights {D : Type 0} (n : ℕ) (source : List ℕ) (m : Moment D) : Ty
   pub sound : m.now.reopen ≡ false
   pub assembled : Assembled m.now source
 
--- A source of this peer was put off in its turn, while the submission of another is under way: it gives a warrior, so it
--- is not refused. Nothing was answered, and neither the hill nor any image of the device changed.
+-- A source of this peer was put off in its turn, while the submission of another is under way: it gives a warrior, so
+-- it is not refused. Nothing was answered, and neither the hill nor any image of the device changed.
 pub record PutsOff {D : Type 0} (n : ℕ) (source : List ℕ) (m : Moment D) : Type 0 where
   pub turn : IsTurn n (Command.Submit source) m
   pub beside : IsSome (other_than n m.round.fighting)

@@ -6,10 +6,9 @@ use Rattle.{hill_store.specs.{Holding.IsHolding, Seen.Seen}, koth_protocol.specs
 use Rattle.koth_session.specs.{Judge.{Fight, fighting}, Peer.IsPeer, Peers.{IsOfOne, OnlyAt, Slots, is_due_in, peer_at}}
 use Rattle.koth_session.specs.declared.{end.PeerEnd.PeerEnd, peer.Peer.Peer, peers.Step.Step}
 use Rattle.koth_service.specs.{Noted.Noted, Seats.{IsPatienceOver, OnlySeat, Seats, has_some, seat_at}}
-use Rattle.koth_service.specs.Session.{Browser, Session}
 use Rattle.koth_service.specs.Moment.{Happening, Moment, Round, Start, ended_in, moment, noted}
 use Rattle.koth_service.specs.{History.{IsHistory, IsSafe, MayDisconnect, OpensAgain, Shows, owed_by}, Held.AreHeld}
-use Rattle.koth_service.specs.declared.{connections.Stage.Stage, desk.Desk.Desk}
+use Rattle.koth_service.specs.{Session.{Browser, Session}, declared.{connections.Stage.Stage, desk.Desk.Desk}}
 use Rattle.koth_service.specs.declared.{host.HowEnded.HowEnded, seats.Seat.Seat}
 
 -- how a command ended a session that ended so: another end comes when all commands were carried out
@@ -23,8 +22,7 @@ over_by (Some PeerEnd.StepsSpent) = Some PeerEnd.StepsSpent
 over_by (Some PeerEnd.StoreFailed) = Some PeerEnd.StoreFailed
 over_by (Some PeerEnd.Memory) = Some PeerEnd.Memory
 
--- a peer's session read what came, as a session or a service reads it, has what is owed and did not go out, and has
--- ended as it did
+-- a peer's session read what came, by any reader, has what is owed and did not go out, and has ended as it did
 pub record Stands {A : Type 0} (s : Session) (peer : Peer A) : Type 0 where
   pub reads : (reader : Reader) → IsPeer reader peer s.came s.done
   pub owed : s.went ++ peer.outbox.unsent ≡ s.owed
