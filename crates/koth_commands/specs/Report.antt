@@ -1,7 +1,7 @@
 -- The report of a source: its faults, and its warnings if they are asked for.
-use Rattle.std.specs.Prelude.{◌≡◌, ◌⊎◌, ℕ, Bool, true, false, ◌||◌, ◌&&◌, if◌then◌else◌, Option, None, Some, List, [], ◌∷◌, ◌++◌, Result, is_err}
+use Rattle.std.specs.Prelude.{◌≡◌, ◌⊎◌, ℕ, Bool, true, false, ◌||◌, ◌&&◌, if◌then◌else◌, Option, None, Some, List, [], ◌∷◌, ◌++◌, Result, codes, is_err, map}
 use Rattle.{war_types.specs.{declared.fault.AsmFault.AsmFault, declared.settings.RawSettings.RawSettings, Fault.kind_name}, redcode_asm.specs.{Assembly.assembly, Within.MaySpend}}
-use Rattle.{redcode_lines.specs.Place.{IsPlaceIn, line_text}, redcode_diagnosis.specs.{Told.Tells, Text.{Begins, heading, warning_heading}}}
+use Rattle.{redcode_lines.specs.Place.{IsPlaceIn, line_text}, redcode_diagnosis.specs.{Told.Tells, Text.{Begins, said_heading}}}
 use Rattle.redcode_warnings.specs.{Kind.{kind_name as warning_name}, Warnings.{Noted, warnings_of}}
 use Rattle.{koth_json.specs.{Finding.finding_line, declared.finding.{Finding.Finding, Severity.Severity}}, koth_words.specs.declared.{serving.TheConstants.STEPS, requests.{Checked.Checked, Form.Form}}}
 use Rattle.koth_commands.specs.{Answer.AnswerParts, Name.shown_name, declared.status.Status.Status}
@@ -17,40 +17,43 @@ manner_of checked = record { form = checked.form; warnings = checked.warnings; d
 
 -- ---- its lines
 
--- something of this severity and kind is found there
-pub record IsFound (how : Severity) (what : List ℕ) (number from bytes : ℕ) (finding : Finding) : Type 0 where
-  pub severity : finding.severity ≡ how
-  pub kind : finding.kind.now ≡ what
-  pub line : finding.line ≡ number
-  pub column : finding.column ≡ from
-  pub width : finding.width ≡ bytes
+-- what is found: how bad it is, its kind, and its line
+pub record Found : Type 0 where
+  pub severity : Severity
+  pub kind : List ℕ
+  pub line : ℕ
 
--- the JSON of that, in the source that is called so
-abbrev pub IsJson : (Finding → Type 0) → List ℕ → List ℕ → Type 0
-IsJson IsFound name text = (finding : Finding) × IsFound finding × (text ≡ finding_line name finding)
+abbrev pub found_fault : AsmFault → Found
+found_fault fault = record { severity = Severity.Error; kind = kind_name fault.kind; line = fault.line }
 
--- what is written of a fault at this place, for people or for programs
-abbrev pub IsFaultLine : Form → List ℕ → AsmFault → ℕ → ℕ → List ℕ → Type 0
-IsFaultLine Form.Text name fault column width line = Begins (heading (shown_name name) fault column) line
-IsFaultLine Form.Json name fault column width line = IsJson (IsFound Severity.Error (kind_name fault.kind) fault.line column width) name line
+abbrev pub found_warning : Noted → Found
+found_warning noted = record { severity = Severity.Warning; kind = warning_name noted.0; line = noted.1 }
 
--- and of a warning
-abbrev pub IsWarningLine : Form → List ℕ → Noted → ℕ → ℕ → List ℕ → Type 0
-IsWarningLine Form.Text name noted column width line = Begins (warning_heading (shown_name name) noted.0 noted.1 column) line
-IsWarningLine Form.Json name noted column width line = IsJson (IsFound Severity.Warning (warning_name noted.0) noted.1 column width) name line
+-- what people read before its kind
+abbrev pub severity_shown : Severity → List ℕ
+severity_shown Severity.Error = []
+severity_shown Severity.Warning = codes "warning: "
 
--- each with a place in its line of the source
-pub record TellsFault (form : Form) (name source : List ℕ) (fault : AsmFault) (line : List ℕ) : Type 0 where
-  pub column : ℕ
-  pub width : ℕ
-  pub placed : IsPlaceIn (line_text source fault.line) column width
-  pub told : IsFaultLine form name fault column width line
+-- the finding is that, at this column with this width
+pub record IsFound (found : Found) (place : ℕ × ℕ) (finding : Finding) : Type 0 where
+  pub severity : finding.severity ≡ found.severity
+  pub kind : finding.kind.now ≡ found.kind
+  pub line : finding.line ≡ found.line
+  pub column : finding.column ≡ place.0
+  pub width : finding.width ≡ place.1
 
-pub record TellsWarning (form : Form) (name source : List ℕ) (noted : Noted) (line : List ℕ) : Type 0 where
-  pub column : ℕ
-  pub width : ℕ
-  pub placed : IsPlaceIn (line_text source noted.1) column width
-  pub told : IsWarningLine form name noted column width line
+-- what is written of it, for people or for programs, in the source that is called so
+abbrev pub IsFoundLine : Form → List ℕ → Found → ℕ × ℕ → List ℕ → Type 0
+IsFoundLine Form.Text name found place line =
+    Begins (said_heading (shown_name name) found.line place.0 (severity_shown found.severity) found.kind) line
+IsFoundLine Form.Json name found place line =
+    (finding : Finding) × IsFound found place finding × (line ≡ finding_line name finding)
+
+-- with a place in its line of the source
+pub record TellsFound (form : Form) (name source : List ℕ) (found : Found) (line : List ℕ) : Type 0 where
+  pub place : ℕ × ℕ
+  pub placed : IsPlaceIn (line_text source found.line) place.0 place.1
+  pub told : IsFoundLine form name found place line
 
 -- one line for each, in their order
 abbrev pub AreLines : {A : Type 0} → (A → List ℕ → Type 0) → List A → List ℕ → Type 0
@@ -71,11 +74,8 @@ warnings_if asked source = if asked then warnings_of source else []
 pub record IsReport (s : RawSettings) (how : Manner) (name source text : List ℕ) : Type 0 where
   pub faults : List AsmFault
   pub tells : Tells faults (assembly s source)
-  pub refused : List ℕ
-  pub fault_lines : AreLines (TellsFault how.form name source) faults refused
-  pub warned : List ℕ
-  pub warning_lines : AreLines (TellsWarning how.form name source) (warnings_if how.warnings source) warned
-  pub split : text ≡ refused ++ warned
+  pub lines : AreLines (TellsFound how.form name source)
+      (map found_fault faults ++ map found_warning (warnings_if how.warnings source)) text
 
 -- what is written of it on standard error: nothing, or that its assembly may spend what a service gives it by default
 abbrev pub IsNoteOf : List ℕ → List ℕ → Type 0

@@ -2,7 +2,7 @@
 
 ghost use Rattle.koth_commands.specs.Told.{WritesSome};
 
-use crate::name::diagnosis_text;
+use crate::report::Remark;
 use crate::stream::write_whole;
 use redcode_diagnosis::diagnose;
 use std::alloc::{AllocError, Allocator};
@@ -47,7 +47,7 @@ fn first_told<A: Allocator + Copy>(
 ) -> Result<Option<Vec<u8, A>>, AllocError> {
     let found = diagnose(alloc, source, settings)?;
     match found.as_slice().first() {
-        Some(first) => Ok(Some(diagnosis_text(alloc, path, source, first)?)),
+        Some(first) => Ok(Some(first.told(alloc, path, source)?)),
         None => Ok(None),
     }
 }

@@ -2,37 +2,8 @@
 
 ghost use Rattle.std.specs.{Prelude.{◌≡◌, ◌++◌, IfOk, OnOk}, Char.encode_utf8};
 ghost use Rattle.koth_commands.specs.Name.{control_shown, hex_digit, shown_character, shown_name};
-ghost use Rattle.redcode_diagnosis.specs.Text.{Begins, heading, warning_heading};
 
-use redcode_diagnosis::{Diagnosis, text_of, warning_text_of};
-use redcode_warnings::Warning;
 use std::alloc::{AllocError, Allocator};
-
-/// What is said of a refusal in the file at this path.
-pub(crate) fn diagnosis_text<A: Allocator + Copy>(
-    alloc: A,
-    path: &str,
-    source: &[u8],
-    diagnosis: &Diagnosis<A>,
-) -> Result<Vec<u8, A>, AllocError>
-    ensures { IfOk result (λ text. Begins (heading (shown_name path.now) diagnosis.now.fault diagnosis.now.column) text.items) }
-{
-    let name = name_text(alloc, path)?;
-    text_of(alloc, name.as_slice(), source, diagnosis)
-}
-
-/// What is said of a warning of the source in the file at this path.
-pub(crate) fn warning_text<A: Allocator + Copy>(
-    alloc: A,
-    path: &str,
-    source: &[u8],
-    warning: &Warning<A>,
-) -> Result<Vec<u8, A>, AllocError>
-    ensures { IfOk result (λ text. Begins (warning_heading (shown_name path.now) warning.now.kind warning.now.line warning.now.column) text.items) }
-{
-    let name = name_text(alloc, path)?;
-    warning_text_of(alloc, name.as_slice(), source, warning)
-}
 
 /// A name: a control character as `\x` and two digits, and any other as it is.
 pub(crate) fn name_text<A: Allocator>(alloc: A, name: &str) -> Result<Vec<u8, A>, AllocError>

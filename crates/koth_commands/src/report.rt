@@ -1,19 +1,18 @@
 //! The report of a source: its refusals, and its warnings if they are asked for.
 
 ghost use Rattle.std.specs.Prelude.{◌≡◌, ◌||◌, ◌&&◌, All, map, true, false, IfOk, MatchResult};
-ghost use Rattle.{redcode_asm.specs.Within.MaySpend, redcode_lines.specs.Place.{IsPlaceIn, line_text}, koth_json.specs.{Finding.finding_line, declared.finding.Severity.Severity}};
-ghost use Rattle.{war_types.specs.Fault.kind_name, redcode_warnings.specs.Kind.{kind_name as warning_name}};
+ghost use Rattle.{redcode_asm.specs.Within.MaySpend, redcode_lines.specs.Place.{IsPlaceIn, line_text}, koth_json.specs.Finding.finding_line};
 ghost use Rattle.{koth_words.specs.declared.serving.TheConstants.STEPS, koth_commands.specs.Trouble.no_memory};
-ghost use Rattle.koth_commands.specs.Report.{has_any, manner_of, status_by, warnings_if, AreLines, IsAnswered, IsFound, IsNoteOf, TellsFault, TellsWarning};
+ghost use Rattle.koth_commands.specs.Report.{has_any, manner_of, status_by, warnings_if, AreLines, IsAnswered, IsNoteOf, TellsFound};
 
 use crate::answer::Answer;
-use crate::name::{diagnosis_text, warning_text};
+use crate::name::name_text;
 use crate::status::Status;
 use crate::trouble::Trouble;
 use koth_json::{Copied, Finding, Severity, put_finding};
 use koth_words::{Checked, Form, STEPS};
 use redcode_asm::{Unassembled, assemble_within};
-use redcode_diagnosis::{Diagnosis, diagnose, line_text};
+use redcode_diagnosis::{Diagnosis, diagnose, line_text, text_of, warning_text_of};
 use redcode_warnings::{Warning, warnings};
 use std::alloc::{AllocError, Allocator};
 use war_types::Settings;
@@ -31,8 +30,8 @@ pub(crate) fn report<'t, A: Allocator + Copy>(
     let found = diagnose(alloc, source, settings)?;
     let warned = asked_warnings(alloc, source, checked.warnings)?;
     let (faults, seen) = (found.as_slice(), warned.as_slice());
-    let mut text = fault_lines(alloc, checked.form, name, source, faults)?;
-    let more = warning_lines(alloc, checked.form, name, source, seen)?;
+    let mut text = lines_of(alloc, checked.form, name, source, faults)?;
+    let more = lines_of(alloc, checked.form, name, source, seen)?;
     text.extend_from_slice(more.as_slice())?;
     Ok(Answer {
         status: status_of(is_refused(faults, seen, checked.deny)),
@@ -74,73 +73,110 @@ fn status_of(is_refused: bool) -> Status
     }
 }
 
-/// What is refused, one line after another.
-fn fault_lines<A: Allocator + Copy>(
+/// What is found in a source.
+pub(crate) trait Remark<A: Allocator> {
+    ghost use Rattle.std.specs.Prelude.{ℕ, IfOk};
+    ghost use Rattle.{koth_words.specs.declared.requests.Form.Form, koth_commands.specs.Report.{Found, IsFound, IsFoundLine}};
+
+    /// How bad it is, its kind and its line.
+    ghost found: { Self → Found };
+
+    /// Its column and its width.
+    ghost place: { Self → ℕ × ℕ };
+
+    /// What people are told of it. The error is lack of memory.
+    fn told(&self, alloc: A, name: &str, source: &[u8]) -> Result<Vec<u8, A>, AllocError>
+        ensures { IfOk result (λ line. IsFoundLine Form.Text name.now (found self.now) (place self.now) line.items) };
+
+    /// What programs are told of it.
+    fn finding<'f>(&'f self, source: &'f [u8]) -> Finding<'f>
+        ensures { IsFound (found self.now) (place self.now) result };
+}
+
+impl<A: Allocator + Copy> Remark<A> for Diagnosis<A> {
+    ghost use Rattle.koth_commands.specs.Report.{found_fault};
+
+    ghost found = { λ d. found_fault d.fault };
+
+    ghost place = { λ d. (d.column, d.width) };
+
+    fn told(&self, alloc: A, name: &str, source: &[u8]) -> Result<Vec<u8, A>, AllocError> {
+        let name = name_text(alloc, name)?;
+        text_of(alloc, name.as_slice(), source, self)
+    }
+
+    fn finding<'f>(&'f self, source: &'f [u8]) -> Finding<'f> {
+        Finding {
+            line: self.fault.line,
+            column: self.column,
+            width: self.width,
+            kind: self.fault.kind.name(),
+            severity: Severity::Error,
+            message: self.sentence.as_slice(),
+            text: line_text(source, self.fault.line),
+            copy: copied(self),
+        }
+    }
+}
+
+impl<A: Allocator + Copy> Remark<A> for Warning<A> {
+    ghost use Rattle.koth_commands.specs.Report.{found_warning};
+
+    ghost found = { λ w. found_warning (w.kind, w.line) };
+
+    ghost place = { λ w. (w.column, w.width) };
+
+    fn told(&self, alloc: A, name: &str, source: &[u8]) -> Result<Vec<u8, A>, AllocError> {
+        let name = name_text(alloc, name)?;
+        warning_text_of(alloc, name.as_slice(), source, self)
+    }
+
+    fn finding<'f>(&'f self, source: &'f [u8]) -> Finding<'f> {
+        Finding {
+            line: self.line,
+            column: self.column,
+            width: self.width,
+            kind: self.kind.name(),
+            severity: Severity::Warning,
+            message: self.sentence.as_slice(),
+            text: line_text(source, self.line),
+            copy: None,
+        }
+    }
+}
+
+/// What is found, one line after another.
+fn lines_of<A: Allocator + Copy, R: Remark<A>>(
     alloc: A,
     form: Form,
     name: &str,
     source: &[u8],
-    found: &[Diagnosis<A>],
+    remarks: &[R],
 ) -> Result<Vec<u8, A>, AllocError>
-    requires { All (λ d. IsPlaceIn (line_text source.now d.fault.line) d.column d.width) found.now }
-    ensures { IfOk result (λ text. AreLines (TellsFault form name.now source.now) (map (λ d. d.fault) found.now) text.items) }
+    requires { All (λ r. IsPlaceIn (line_text source.now (R.found r).line) (R.place r).0 (R.place r).1) remarks.now }
+    ensures { IfOk result (λ text. AreLines (TellsFound form name.now source.now) (map R.found remarks.now) text.items) }
 {
     let mut text = Vec::new(alloc);
-    for diagnosis in found {
-        let line = fault_line(alloc, form, name, source, diagnosis)?;
+    for remark in remarks {
+        let line = line_of(alloc, form, name, source, remark)?;
         text.extend_from_slice(line.as_slice())?;
     }
     Ok(text)
 }
 
-fn fault_line<A: Allocator + Copy>(
+fn line_of<A: Allocator + Copy, R: Remark<A>>(
     alloc: A,
     form: Form,
     name: &str,
     source: &[u8],
-    diagnosis: &Diagnosis<A>,
+    remark: &R,
 ) -> Result<Vec<u8, A>, AllocError>
-    requires { IsPlaceIn (line_text source.now diagnosis.now.fault.line) diagnosis.now.column diagnosis.now.width }
-    ensures { IfOk result (λ line. TellsFault form name.now source.now diagnosis.now.fault line.items) }
+    requires { IsPlaceIn (line_text source.now (R.found remark.now).line) (R.place remark.now).0 (R.place remark.now).1 }
+    ensures { IfOk result (λ line. TellsFound form name.now source.now (R.found remark.now) line.items) }
 {
     match form {
-        Form::Text => diagnosis_text(alloc, name, source, diagnosis),
-        Form::Json => json_line(alloc, name, fault_finding(source, diagnosis)),
-    }
-}
-
-/// What is warned of, one line after another.
-fn warning_lines<A: Allocator + Copy>(
-    alloc: A,
-    form: Form,
-    name: &str,
-    source: &[u8],
-    warned: &[Warning<A>],
-) -> Result<Vec<u8, A>, AllocError>
-    requires { All (λ w. IsPlaceIn (line_text source.now w.line) w.column w.width) warned.now }
-    ensures { IfOk result (λ text. AreLines (TellsWarning form name.now source.now) (map (λ w. (w.kind, w.line)) warned.now) text.items) }
-{
-    let mut text = Vec::new(alloc);
-    for warning in warned {
-        let told = warning_line(alloc, form, name, source, warning)?;
-        text.extend_from_slice(told.as_slice())?;
-    }
-    Ok(text)
-}
-
-fn warning_line<A: Allocator + Copy>(
-    alloc: A,
-    form: Form,
-    name: &str,
-    source: &[u8],
-    warning: &Warning<A>,
-) -> Result<Vec<u8, A>, AllocError>
-    requires { IsPlaceIn (line_text source.now warning.now.line) warning.now.column warning.now.width }
-    ensures { IfOk result (λ line. TellsWarning form name.now source.now (warning.now.kind, warning.now.line) line.items) }
-{
-    match form {
-        Form::Text => warning_text(alloc, name, source, warning),
-        Form::Json => json_line(alloc, name, warning_finding(source, warning)),
+        Form::Text => remark.told(alloc, name, source),
+        Form::Json => json_line(alloc, name, remark.finding(source)),
     }
 }
 
@@ -157,22 +193,6 @@ fn json_line<A: Allocator>(
     Ok(line)
 }
 
-/// A refusal as what is found.
-fn fault_finding<'f, A: Allocator>(source: &'f [u8], diagnosis: &'f Diagnosis<A>) -> Finding<'f>
-    ensures { IsFound Severity.Error (kind_name diagnosis.now.fault.kind) diagnosis.now.fault.line diagnosis.now.column diagnosis.now.width result }
-{
-    Finding {
-        line: diagnosis.fault.line,
-        column: diagnosis.column,
-        width: diagnosis.width,
-        kind: diagnosis.fault.kind.name(),
-        severity: Severity::Error,
-        message: diagnosis.sentence.as_slice(),
-        text: line_text(source, diagnosis.fault.line),
-        copy: copied(diagnosis),
-    }
-}
-
 /// The copy of a block that is to blame, if the line stands in one.
 pub(crate) fn copied<A: Allocator>(diagnosis: &Diagnosis<A>) -> Option<Copied<'_>> {
     match &diagnosis.copy {
@@ -182,22 +202,6 @@ pub(crate) fn copied<A: Allocator>(diagnosis: &Diagnosis<A>) -> Option<Copied<'_
             text: copy.text.as_slice(),
         }),
         None => None,
-    }
-}
-
-/// A warning as what is found.
-fn warning_finding<'f, A: Allocator>(source: &'f [u8], warning: &'f Warning<A>) -> Finding<'f>
-    ensures { IsFound Severity.Warning (warning_name warning.now.kind) warning.now.line warning.now.column warning.now.width result }
-{
-    Finding {
-        line: warning.line,
-        column: warning.column,
-        width: warning.width,
-        kind: warning.kind.name(),
-        severity: Severity::Warning,
-        message: warning.sentence.as_slice(),
-        text: line_text(source, warning.line),
-        copy: None,
     }
 }
 

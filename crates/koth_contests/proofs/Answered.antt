@@ -1,9 +1,9 @@
 -- How a command of a match ends whose answer was delivered.
-use Rattle.std.proofs.Common.{◌≡◌, inl, inr, ℕ, List, Option, Result, Ok, Err, MatchResult, sym, ap, subst, ◌∙◌}
+use Rattle.std.proofs.Common.{◌≡◌, inl, inr, ℕ, List, [], Option, Result, Ok, Err, MatchResult, refl, sym, ap, subst, ◌∙◌}
 use Rattle.{std.specs.Io.KnownBytes.{Appends, Keeps}, war_types.specs.{declared.fault.AsmFault.AsmFault, declared.settings.RawSettings.RawSettings}}
 use Rattle.{koth_text.specs.Written.WritesPart, koth_words.specs.declared.requests.View.View}
 use Rattle.{redcode_asm.specs.Assembly.assembly, koth_commands.specs.Pair.IsFaultOf}
-use Rattle.koth_commands.specs.{Answer.{AnswerParts, Delivers, IsRefusal}, Told.{TellsWord}, Trouble.{IsReadFault, Tells, fault_status, fault_word, no_memory}}
+use Rattle.koth_commands.specs.{Answer.{AnswerParts, Delivers, IsRefusal, answer_parts}, Told.{TellsWord}, Trouble.{IsReadFault, Tells, fault_status, fault_word, no_memory}}
 use Rattle.koth_commands.specs.declared.{status.Status.Status, trouble.{Fault.Fault, Trouble.Trouble}}
 use Rattle.koth_contests.specs.Pair.{AnswersAs, EndsMatch, IsAnswer}
 use Rattle.koth_contests.proofs.Written.{nothing_written, stays}
@@ -31,6 +31,10 @@ module _ (s : RawSettings) (view : View) (IsTold : List ℕ → Type 0) (IsNothi
   pub answers_none : (r : Result AnswerParts Trouble) → MatchResult r (IsAnswer s view (λ t. ⊥) ⊥) IsReadFault → MatchResult r (IsAnswer s view IsTold IsNothing) IsReadFault
   answers_none (Ok a) is = none_as a.status a.text a.note is
   answers_none (Err trouble) is = is
+
+  -- a text is answered that is done
+  pub done_answers : (text : List ℕ) (a : AnswerParts) → a ≡ answer_parts Status.Done text [] → IsTold text → IsAnswer s view IsTold IsNothing a
+  done_answers text a is told = subst (IsAnswer s view IsTold IsNothing) (sym is) (told, refl)
 
   module _ (o p e f : Option (List ℕ)) where
     whole_ends : (status : Status) (text note : List ℕ) → AnswersAs s view IsTold IsNothing status text note → Appends o p text → WritesPart e f note

@@ -9,6 +9,10 @@ tally won lost tied = record { won = won; lost = lost; tied = tied }
 abbrev pub no_rounds : Tally
 no_rounds = tally 0 0 0
 
+-- how many rounds these are
+abbrev pub rounds_in : Tally → ℕ
+rounds_in t = t.won + t.lost + t.tied
+
 -- the rounds of both
 abbrev pub added : Tally → Tally → Tally
 added a b = tally (a.won + b.won) (a.lost + b.lost) (a.tied + b.tied)

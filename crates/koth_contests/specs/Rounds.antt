@@ -3,8 +3,8 @@ use Rattle.std.specs.{Prelude.{◌≡◌, ℕ, ◌+◌, ◌<◌, ◌≢◌, Matc
 use Rattle.{war_types.specs.{Warrior.WarriorParts, declared.settings.RawSettings.RawSettings}, mars_core.specs.declared.round.{Outcome.Outcome, Side.Side}}
 use Rattle.{koth_match.specs.{Match.{AreCounts, first_in, match_of, round_outcome}, Seeds.{position, seed_of_round}}, koth_replay.specs.Replay.turns_in}
 use Rattle.{koth_text.specs.{Columns.padded, declared.columns.Alignment.Alignment}, koth_words.specs.declared.requests.View.View}
-use Rattle.koth_json.specs.{Contest.{round_line as round_object}, declared.contest.Round.Round}
-use Rattle.koth_contests.specs.{Lines.refers, declared.rounds.Played.Played}
+use Rattle.koth_json.specs.Contest.{round_line as round_object}
+use Rattle.koth_contests.specs.declared.rounds.Played.Played
 
 -- round r of a match, counted from 0: its number is counted from 1
 abbrev pub round_of : RawSettings → WarriorParts → WarriorParts → ℕ → Played
@@ -51,21 +51,10 @@ abbrev pub round_columns : Played → List ℕ
 round_columns p = padded Alignment.Right 5 (decimal p.number) ++ (padded Alignment.Right 12 (decimal p.seed)
     ++ (padded Alignment.Right 10 (decimal p.position) ++ ends_columns p))
 
--- the same as lines of JSON have it
-abbrev pub round_fields : Played → Round
-round_fields p = record {
-  number = p.number;
-  seed = p.seed;
-  position = p.position;
-  first = refers (side_name p.first);
-  outcome = refers (outcome_name p.outcome);
-  turns = p.turns;
-}
-
 abbrev pub round_line : View → Played → List ℕ
 round_line View.Plain p = round_told p
 round_line View.Table p = round_columns p
-round_line View.Json p = round_object (round_fields p)
+round_line View.Json p = round_object p.number p.seed p.position (side_name p.first) (outcome_name p.outcome) p.turns
 
 -- the line over those of the rounds, for people
 abbrev pub rounds_heading : View → List ℕ

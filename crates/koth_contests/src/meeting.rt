@@ -1,7 +1,7 @@
 //! One warrior, mine, against others, one after the other.
 
 ghost use Rattle.std.specs.Prelude.{◌≡◌, ◌+◌, ◌≤◌, length, string_bytes};
-ghost use Rattle.{war_types.specs.Warrior.Fits, koth_contests.specs.{Lines.entrant, Met.{EndsMade, EndsMeetings, IsLineAnswer, Meets, Notes, TellsNone}, Opponents.names_of, Pair.IsNoneOf}};
+ghost use Rattle.{war_types.specs.Warrior.Fits, koth_contests.specs.{Contest.rounds_in, Lines.entrant, Met.{EndsMade, EndsMeetings, IsLineAnswer, Meets, Notes, TellsNone}, Opponents.names_of, Pair.IsNoneOf}};
 
 use crate::contest::{added, contest_tally};
 use crate::lines::{contender, contest_line, heading_line, sum_line};
@@ -104,14 +104,10 @@ fn meet<R: Files, A: Allocator + Copy, B: Allocator, I: Read, O: Write, E: Write
 ) -> Status
     requires settings { arena.old.settings ≡ settings.now }
     requires mine { Fits settings.now mine.now }
-    requires won { sum.old.won + 131070 ≤ u64.MAX }
-    requires lost { sum.old.lost + 131070 ≤ u64.MAX }
-    requires tied { sum.old.tied + 131070 ≤ u64.MAX }
+    requires rounds { rounds_in sum.old + 131070 ≤ u64.MAX }
     ensures meets { Meets settings.now terms (entrant file.now mine.now) (string_bytes opponent.now.name) sum.old sum.new result
         (O.contents output.old) (O.contents output.new) (E.contents errors.old) (E.contents errors.new) }
-    ensures won { sum.new.won ≤ sum.old.won + 131070 }
-    ensures lost { sum.new.lost ≤ sum.old.lost + 131070 }
-    ensures tied { sum.new.tied ≤ sum.old.tied + 131070 }
+    ensures rounds { rounds_in sum.new ≤ rounds_in sum.old + 131070 }
     ensures settings { arena.new.settings ≡ arena.old.settings }
 {
     match opponent.warrior(rt, alloc, settings, input) {
@@ -192,11 +188,7 @@ fn line_answer<'t, A: Allocator + Copy>(
     ensures { IsLineAnswer line result }
 {
     match line {
-        Ok(text) => Ok(Answer {
-            status: Status::Done,
-            text,
-            note: Vec::new(alloc),
-        }),
+        Ok(text) => Ok(Answer::done(alloc, text)),
         Err(AllocError) => Err(Trouble::memory()),
     }
 }

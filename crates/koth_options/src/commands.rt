@@ -48,21 +48,16 @@ fn asm_command<'a>(heap: Global) -> Result<Command<'a>, AllocError>
     ensures { IfOk result (IsReadAs asm_app) }
 {
     let command = described(heap, "asm", "Assembles a source, and writes its load text");
-    with_like(
-        heap,
-        with_name(heap, with_arg(Ok(command), source_or_input(heap))),
-    )
+    let command = with_arg(Ok(command), source_or_input(heap));
+    with_like(heap, with_name(heap, command))
 }
 
 fn check_command<'a>(heap: Global) -> Result<Command<'a>, AllocError>
     ensures { IfOk result (IsReadAs check_app) }
 {
     let about = "Assembles sources, and reports what is wrong with them";
-    let several = sources(
-        heap,
-        "SOURCE",
-        "Files of the sources, one or more; - is standard input",
-    );
+    let help = "Files of the sources, one or more; - is standard input";
+    let several = sources(heap, "SOURCE", help);
     let command = with_arg(Ok(described(heap, "check", about)), several);
     let command = with_format(heap, with_name(heap, command));
     let help = "Report also what is taken, but looks like a mistake";
@@ -76,11 +71,8 @@ fn fight_command<'a>(heap: Global) -> Result<Command<'a>, AllocError>
 {
     let about =
         "Plays a match with each opponent, and writes how many rounds were won, lost and tied";
-    let mine = file(
-        heap,
-        "MINE",
-        "File of the older warrior; - is standard input",
-    );
+    let help = "File of the older warrior; - is standard input";
+    let mine = file(heap, "MINE", help);
     let help = "Files of the younger warriors, one or more; a folder stands for its *.red";
     let command = with_arg(Ok(described(heap, "fight", about)), mine);
     let command = with_name(heap, with_arg(command, sources(heap, "OTHER", help)));
@@ -109,18 +101,13 @@ fn submit_command<'a>(heap: Global) -> Result<Command<'a>, AllocError>
 {
     let about = "Submits a warrior to a hill, and writes whether it is placed, falls or is refused";
     let hill = file(heap, "FILE", "Hill file");
-    let source = file(
-        heap,
-        "SOURCE",
-        "File of the warrior's source; - is standard input",
-    );
+    let help = "File of the warrior's source; - is standard input";
+    let source = file(heap, "SOURCE", help);
     let command = with_arg(Ok(described(heap, "submit", about)), hill);
     let help = "Seconds to wait if another program has the hill's lock, 1 to 3600 [default: none]";
     let wait = ranged(heap, "wait", 1, 3600, help);
-    with_view(
-        heap,
-        with_name(heap, with_arg(with_arg(command, source), wait)),
-    )
+    let command = with_name(heap, with_arg(with_arg(command, source), wait));
+    with_view(heap, command)
 }
 
 fn show_command<'a>(heap: Global) -> Result<Command<'a>, AllocError>
@@ -204,16 +191,10 @@ fn replay_command<'a>(heap: Global) -> Result<Command<'a>, AllocError>
     ensures { IfOk result (IsReadAs replay_app) }
 {
     let about = "Writes a page that shows one round of a match turn by turn";
-    let mine = file(
-        heap,
-        "MINE",
-        "File of the older warrior; - is standard input",
-    );
-    let other = file(
-        heap,
-        "OTHER",
-        "File of the younger warrior; - is standard input",
-    );
+    let help = "File of the older warrior; - is standard input";
+    let mine = file(heap, "MINE", help);
+    let help = "File of the younger warrior; - is standard input";
+    let other = file(heap, "OTHER", help);
     let command = with_arg(with_arg(Ok(described(heap, "replay", about)), mine), other);
     let help = "File for the page; needed if standard output is a terminal";
     let command = with_arg(with_name(heap, command), page_file(heap, help));
@@ -230,11 +211,8 @@ fn try_command<'a>(heap: Global) -> Result<Command<'a>, AllocError>
 {
     let about = "Writes what a submission of a warrior would be answered; nothing is submitted";
     let hill = file(heap, "FILE", "Hill file, which stays as it is");
-    let source = file(
-        heap,
-        "SOURCE",
-        "File of the warrior's source; - is standard input",
-    );
+    let help = "File of the warrior's source; - is standard input";
+    let source = file(heap, "SOURCE", help);
     let command = with_arg(Ok(described(heap, "try", about)), hill);
     with_view(heap, with_name(heap, with_arg(command, source)))
 }

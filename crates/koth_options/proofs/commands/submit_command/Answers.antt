@@ -6,5 +6,5 @@ returns c =
     let first = c.with_arg-command.ensures _ _ c.described.ensures c.file-hill.ensures.rule c.file-hill.ensures.global in
     let second = c.with_arg.ensures _ _ first c.file-source.ensures.rule c.file-source.ensures.global in
     let third = c.with_arg-2.ensures _ _ second c.ranged-wait.ensures.rule c.ranged-wait.ensures.global in
-    let fourth = c.with_name.ensures _ third in
+    let fourth = c.with_name-command.ensures _ third in
     c.with_view.ensures _ fourth
