@@ -21,8 +21,8 @@ MORE_JOBS, MOST_JOBS = 0.6, 4  # of that for each further job of a check; more t
 # processor seconds of each crate's proof at one job, on a processor of 2.5 GHz, as bench/gate prints them; by the clock four jobs take about half
 SECONDS = {
     "war_types": 83, "redcode_text": 88, "redcode_lines": 88, "redcode_statement": 51, "redcode_copies": 102, "redcode_names": 142,
-    "redcode_expand": 285, "redcode_asm": 111, "redcode_blame": 261, "redcode_diagnosis": 77, "mars_core": 175, "koth_match": 27, "koth_hill": 93,
-    "koth_replay": 69, "koth_protocol": 83, "koth_text": 74, "sector_disk": 82, "hill_file": 73, "hill_bytes": 89, "hill_images": 112,
+    "redcode_expand": 285, "redcode_asm": 111, "redcode_scene": 105, "redcode_blame": 175, "redcode_diagnosis": 77, "mars_core": 175, "koth_match": 27,
+    "koth_hill": 93, "koth_replay": 69, "koth_protocol": 83, "koth_text": 74, "sector_disk": 82, "hill_file": 73, "hill_bytes": 89, "hill_images": 112,
     "hill_store": 88, "koth_session": 140, "koth_http": 42, "koth_service": 184, "koth_sockets": 95, "koth_words": 228,
     "koth_views": 105, "koth_page": 83, "koth_watch": 98, "koth_commands": 140, "koth_contests": 150, "koth_server": 351, "koth": 98,
 }

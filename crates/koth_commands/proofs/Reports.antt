@@ -1,6 +1,6 @@
 -- The lines of a report, one after another.
 use Rattle.std.proofs.{Common.{◌≡◌, ◌∙◌, ◌<◌, ◌+◌, ◌++◌, ◌||◌, ◌&&◌, ℕ, List, [], ◌∷◌, Bool, true, false, Some, Result, Ok, Err, ap, ap₂, append-nil, append_assoc, get_or, length, map, refl, subst, sym, take}, lemmas.List.{take_more, map-append}}
-use Rattle.{std.specs.Prelude.is_err, war_types.specs.{Warrior.WarriorParts, declared.fault.AsmFault.AsmFault}, redcode_diagnosis.specs.Told.Tells, redcode_asm.specs.Assembly.assembly, redcode_warnings.specs.Warnings.Noted}
+use Rattle.{std.specs.Prelude.is_err, war_types.specs.{Warrior.WarriorParts, declared.fault.AsmFault.AsmFault}, redcode_diagnosis.specs.Told.{Tells, TellsAll}, redcode_asm.specs.Assembly.assembly, redcode_warnings.specs.Warnings.Noted}
 use Rattle.{war_types.specs.declared.settings.RawSettings.RawSettings, koth_commands.specs.{Answer.answer_parts, declared.status.Status.Status}}
 use Rattle.koth_commands.specs.Report.{Manner, AreLines, IsAnswered, IsNoteOf, TellsFault, TellsWarning, has_any, is_refused, status_by, warnings_if}
 
@@ -40,15 +40,16 @@ module _ {A B : Type 0} (fault : A → AsmFault) (noted : B → Noted) (s : RawS
       (ap has_any also ∙ sym (any_of noted warned) ∙ ap has_any told)
 
   pub answered : (refused : Bool) (status : Status) (fault_text warning_text text note : List ℕ) → read ≡ found → seen ≡ warned
-      → Tells (map fault found) (assembly s source) → map noted warned ≡ warnings_if how.warnings source
+      → Tells (map fault found) (assembly s source) → TellsAll s source (map fault found) (assembly s source) → map noted warned ≡ warnings_if how.warnings source
       → refused ≡ (has_any read || (how.deny && has_any seen)) → status ≡ status_by false refused
       → AreLines (TellsFault how.form name source) (map fault read) fault_text → AreLines (TellsWarning how.form name source) (map noted seen) warning_text
       → text ≡ fault_text ++ warning_text → IsNoteOf source note → IsAnswered s how name source (answer_parts status text note)
-  answered refused status fault_text warning_text text note is also tells told refuses ends faults warnings split noted_so = record {
+  answered refused status fault_text warning_text text note is also tells all told refuses ends faults warnings split noted_so = record {
     status = ends ∙ ap (status_by false) (refuses ∙ refused_is is also tells told);
     report = record {
       faults = map fault found;
       tells = tells;
+      all = all;
       refused = fault_text;
       fault_lines = subst (λ l. AreLines (TellsFault how.form name source) (map fault l) fault_text) is faults;
       warned = warning_text;

@@ -1,7 +1,7 @@
 -- The report of a source: its faults, and its warnings if they are asked for.
 use Rattle.std.specs.Prelude.{◌≡◌, ◌⊎◌, ℕ, Bool, true, false, ◌||◌, ◌&&◌, if◌then◌else◌, Option, None, Some, List, [], ◌∷◌, ◌++◌, Result, is_err}
 use Rattle.{war_types.specs.{declared.fault.AsmFault.AsmFault, declared.settings.RawSettings.RawSettings, Fault.kind_name}, redcode_asm.specs.{Assembly.assembly, Within.MaySpend}}
-use Rattle.{redcode_lines.specs.Place.{IsPlaceIn, line_text}, redcode_diagnosis.specs.{Told.Tells, Text.{Begins, heading, warning_heading}}}
+use Rattle.{redcode_lines.specs.Place.{IsPlaceIn, line_text}, redcode_diagnosis.specs.{Told.{Tells, TellsAll}, Text.{Begins, heading, warning_heading}}}
 use Rattle.redcode_warnings.specs.{Kind.{kind_name as warning_name}, Warnings.{Noted, warnings_of}}
 use Rattle.{koth_json.specs.{Finding.finding_line, declared.finding.{Finding.Finding, Severity.Severity}}, koth_words.specs.declared.{serving.TheConstants.STEPS, requests.{Checked.Checked, Form.Form}}}
 use Rattle.koth_commands.specs.{Answer.AnswerParts, Name.shown_name, declared.status.Status.Status}
@@ -67,10 +67,11 @@ has_any (x ∷ xs) = true
 abbrev pub warnings_if : Bool → List ℕ → List Noted
 warnings_if asked source = if asked then warnings_of source else []
 
--- what is written of a source on the output: its faults, first the one that the assembler answers, and none if it assembles; then its warnings
+-- what is written of a source on the output: its faults, none if it assembles, and else all from the one that the assembler answers on; then its warnings
 pub record IsReport (s : RawSettings) (how : Manner) (name source text : List ℕ) : Type 0 where
   pub faults : List AsmFault
   pub tells : Tells faults (assembly s source)
+  pub all : TellsAll s source faults (assembly s source)
   pub refused : List ℕ
   pub fault_lines : AreLines (TellsFault how.form name source) faults refused
   pub warned : List ℕ

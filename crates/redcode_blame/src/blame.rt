@@ -6,10 +6,10 @@ use crate::equs::{bad_equ, equ_limit};
 use crate::expressions::expression;
 use crate::operands::{extra_text, missing_operand};
 use crate::said::{Part, say};
-use crate::scene::{Row, Scene};
 use crate::statements::{bad_modifier, bad_operation, bad_token, pspace};
 use crate::warriors::{bad_start, empty, say_assertion, source_too_long, too_long};
 use redcode_lines::Span;
+use redcode_scene::{Row, Scene};
 use std::alloc::{AllocError, Allocator};
 use war_types::{AsmFault, AsmKind};
 

@@ -1,23 +1,12 @@
 //! Faults of the walk over a source's lines: blocks, their limit, and names that are defined twice.
 
 use crate::blame::{Answer, Told, told_parts, told_text, told_word};
-use crate::copies::blocks_around;
-use crate::definitions::{Role, definition, is_among, last_name};
-use crate::nearest::nearest_word;
 use crate::said::Part;
-use crate::scene::{Row, Scene};
 use redcode_expand::predefined;
 use redcode_lines::{Span, has_and, is_name};
+use redcode_scene::{Role, Row, Scene, blocks_around, definition, is_among, last_name, nearest_word};
 use redcode_text::{Token, Word};
 use std::alloc::{AllocError, Allocator};
-
-/// The word of a line, or the whole line if it has none.
-pub(crate) fn word_of_row(row: &Row<'_, '_>) -> Span {
-    match (row.reading.word, row.reading.tokens) {
-        (Some(_), [word, ..]) => row.span(word),
-        _ => row.whole(),
-    }
-}
 
 /// A `FOR` without its `ROF`, or a `ROF` without its `FOR`.
 pub(crate) fn unmatched(row: &Row<'_, '_>) -> Told<'static> {
@@ -25,7 +14,7 @@ pub(crate) fn unmatched(row: &Row<'_, '_>) -> Told<'static> {
         Some(Word::For) => "no `ROF` below ends the block of this `FOR`",
         _ => "no block is open that this `ROF` could end",
     };
-    told_text(word_of_row(row), said)
+    told_text(row.word(), said)
 }
 
 /// A line past the limit.

@@ -1,14 +1,12 @@
 //! Counts of blocks.
 
 use crate::blame::{Answer, told_text, told_word};
-use crate::blocks::word_of_row;
-use crate::definitions::{Role, definition};
 use crate::expressions::{division_by_zero, overflow};
 use crate::names::unknown_name;
-use crate::scene::{Row, Scene};
 use crate::shape::{Shaped, no_expression};
 use redcode_expand::predefined;
 use redcode_lines::{behind_first, is_name};
+use redcode_scene::{Role, Row, Scene, definition};
 use redcode_text::Token;
 use std::alloc::Allocator;
 use war_types::ExprFault;
@@ -22,7 +20,7 @@ pub(crate) fn count<'s, A: Allocator + Copy>(
     let tokens = behind_first(row.reading.tokens);
     if tokens.is_empty() {
         let said = "a count is due behind `FOR`";
-        return Ok(told_text(word_of_row(row), said));
+        return Ok(told_text(row.word(), said));
     }
     match kind {
         ExprFault::BadExpression => Ok(no_expression(scene, row, Shaped::of(tokens))),

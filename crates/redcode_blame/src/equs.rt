@@ -1,11 +1,8 @@
 //! Faults of `EQU` lines, and of what their names stand for.
 
 use crate::blame::{Told, told_before, told_text, told_word};
-use crate::blocks::word_of_row;
-use crate::definitions::{Role, definition, last_name};
-use crate::operands::operands_in;
-use crate::scene::{Row, Scene};
-use redcode_lines::{behind_first, is_name, word_at};
+use redcode_lines::{behind_first, word_at};
+use redcode_scene::{Row, Scene, first_equ, last_name, operands_in};
 use redcode_text::{Token, Word};
 use std::alloc::Allocator;
 
@@ -14,7 +11,7 @@ const TOKEN_LIMIT: usize = 512;
 
 /// An `EQU` without a name or a body, or with a reserved word in its body.
 pub(crate) fn bad_equ<'s>(row: &Row<'_, 's>) -> Told<'s> {
-    let word = word_of_row(row);
+    let word = row.word();
     match (
         last_name(row.reading.labels()),
         reserved_in(behind_first(row.reading.tokens)),
@@ -47,19 +44,6 @@ pub(crate) fn replaced_in<'l, 's>(row: &Row<'l, 's>) -> &'l [Token<'s>] {
         Some(Word::For) => behind_first(row.reading.tokens),
         _ => operands_in(&row.reading),
     }
-}
-
-/// The first of the tokens that is the name of an `EQU`.
-pub(crate) fn first_equ<'t, 's, A: Allocator + Copy>(
-    scene: &Scene<'_, A>,
-    tokens: &'t [Token<'s>],
-) -> Option<&'t Token<'s>> {
-    for token in tokens {
-        if is_name(token) && definition(scene, Role::Equ, token.text, u32::MAX).is_some() {
-            return Some(token);
-        }
-    }
-    None
 }
 
 /// Operands of too many tokens, or a name that is left after the last round.

@@ -1,14 +1,14 @@
 //! Expressions without a value.
 
 use crate::blame::{Answer, Told, told_parts, told_text};
-use crate::judge::{Faulty, faulty_line, labels_on};
 use crate::names::{first_unknown, unknown_name};
-use crate::operands::{at_comma, operand_at, operands_in, without_mode};
 use crate::said::Part;
-use crate::scene::{Row, Scene};
 use crate::shape::{Shaped, no_expression};
 use redcode_expand::{Expanded, LineKind};
 use redcode_lines::{has_text, operands_of};
+use redcode_scene::{
+    Faulty, Row, Scene, at_comma, faulty_line, labels_on, operand_at, operands_in, without_mode,
+};
 use redcode_text::{Names, Token, TokenKind, value};
 use std::alloc::Allocator;
 use war_types::{AsmFault, ExprFault, Settings};

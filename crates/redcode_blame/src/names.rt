@@ -1,11 +1,9 @@
 //! Names that nothing defines.
 
 use crate::blame::{Answer, END, Told, told_parts};
-use crate::definitions::{Role, definition, nearest_name};
-use crate::nearest::is_reserved;
 use crate::said::Part;
-use crate::scene::{Row, Scene};
 use redcode_lines::{Span, has_text, is_name};
+use redcode_scene::{Role, Row, Scene, definition, is_reserved, nearest_name};
 use redcode_text::{Names, Token};
 use std::alloc::Allocator;
 

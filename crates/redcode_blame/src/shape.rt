@@ -1,9 +1,8 @@
 //! Tokens that make no expression.
 
 use crate::blame::{Told, told_before, told_text, told_word};
-use crate::equs::first_equ;
-use crate::scene::{Row, Scene};
 use redcode_lines::{Span, has_text, line_text, part_of};
+use redcode_scene::{Flaw, Row, Scene, first_equ, flaw_of};
 use redcode_text::{Token, TokenKind, mode_named};
 use std::alloc::Allocator;
 
@@ -27,124 +26,6 @@ impl<'l, 's> Shaped<'l, 's> {
             may_part: false,
         }
     }
-}
-
-/// What a token is in an expression.
-#[derive(Clone, Copy)]
-enum Role {
-    /// A number or a name.
-    Value,
-    Open,
-    Close,
-    Not,
-    Sign,
-    Operator,
-    /// No part of any expression.
-    Stranger,
-}
-
-/// Why tokens make no expression.
-#[derive(Clone, Copy)]
-enum Flaw<'l, 's> {
-    SideBySide(&'l Token<'s>, &'l Token<'s>),
-    Stranger(&'l Token<'s>),
-    /// A `!` after a value.
-    Behind(&'l Token<'s>),
-    /// A `)` without its `(`.
-    Unopened(&'l Token<'s>),
-    /// A `(` without its `)`.
-    Unclosed(&'l Token<'s>),
-    /// Something else at the place of a value.
-    NoValue(&'l Token<'s>),
-    /// The last token, after which a value is due.
-    NoEnd(&'l Token<'s>),
-}
-
-/// How far an expression is read.
-#[derive(Clone, Copy)]
-struct Reader<'l, 's> {
-    last: Option<&'l Token<'s>>,
-    /// Whether a value ends with the last token.
-    is_value: bool,
-    /// Parentheses that are open.
-    open: u32,
-}
-
-fn role_of(token: &Token<'_>) -> Role {
-    match token.kind {
-        TokenKind::Name | TokenKind::Number => Role::Value,
-        TokenKind::Comment | TokenKind::Bad => Role::Stranger,
-        TokenKind::Symbol => match token.text {
-            b"(" => Role::Open,
-            b")" => Role::Close,
-            b"!" => Role::Not,
-            b"+" | b"-" => Role::Sign,
-            b"*" | b"/" | b"%" | b"<" | b">" => Role::Operator,
-            b"<=" | b">=" | b"==" | b"!=" | b"&&" | b"||" => Role::Operator,
-            _ => Role::Stranger,
-        },
-    }
-}
-
-impl<'l, 's> Reader<'l, 's> {
-    /// The flaw that a further token shows.
-    fn flaw_at(&self, token: &'l Token<'s>) -> Option<Flaw<'l, 's>> {
-        match (role_of(token), self.is_value, self.last) {
-            (Role::Stranger, _, _) => Some(Flaw::Stranger(token)),
-            (Role::Value | Role::Open, true, Some(last)) => Some(Flaw::SideBySide(last, token)),
-            (Role::Not, true, _) => Some(Flaw::Behind(token)),
-            (Role::Close, _, _) if self.open == 0 => Some(Flaw::Unopened(token)),
-            (Role::Close | Role::Operator, false, _) => Some(Flaw::NoValue(token)),
-            _ => None,
-        }
-    }
-
-    /// The reader after a further token.
-    fn behind(self, token: &'l Token<'s>) -> Reader<'l, 's> {
-        let role = role_of(token);
-        Reader {
-            last: Some(token),
-            is_value: matches!(role, Role::Value | Role::Close),
-            open: match role {
-                Role::Open => self.open.saturating_add(1),
-                Role::Close => self.open.saturating_sub(1),
-                _ => self.open,
-            },
-        }
-    }
-}
-
-/// The first flaw of some tokens, if their order shows one.
-fn flaw_of<'l, 's>(tokens: &'l [Token<'s>]) -> Option<Flaw<'l, 's>> {
-    let mut reader = Reader {
-        last: None,
-        is_value: false,
-        open: 0,
-    };
-    for token in tokens {
-        if let Some(flaw) = reader.flaw_at(token) {
-            return Some(flaw);
-        }
-        reader = reader.behind(token);
-    }
-    match reader.last {
-        Some(last) if !reader.is_value => Some(Flaw::NoEnd(last)),
-        _ => unclosed(tokens),
-    }
-}
-
-/// The last `(` without its `)`.
-fn unclosed<'l, 's>(tokens: &'l [Token<'s>]) -> Option<Flaw<'l, 's>> {
-    let mut closed: u32 = 0;
-    for token in tokens.iter().rev() {
-        match role_of(token) {
-            Role::Close => closed = closed.saturating_add(1),
-            Role::Open if closed == 0 => return Some(Flaw::Unclosed(token)),
-            Role::Open => closed = closed.saturating_sub(1),
-            _ => {}
-        }
-    }
-    None
 }
 
 /// Tokens that make no expression.

@@ -1,10 +1,9 @@
 //! Statements that are none: tokens, operations and modifiers.
 
 use crate::blame::{Answer, END, Told, told_parts, told_text, told_word};
-use crate::nearest::{is_operation, nearest_word};
 use crate::said::Part;
-use crate::scene::{Row, Scene};
 use redcode_lines::{LineForm, Span, has_text, is_name, line_text, part_of};
+use redcode_scene::{Row, Scene, is_operation, nearest_word};
 use redcode_text::{Token, TokenKind};
 use std::alloc::{AllocError, Allocator};
 

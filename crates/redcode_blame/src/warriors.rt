@@ -1,13 +1,11 @@
 //! What is wrong with a warrior, or with a source as a whole.
 
 use crate::blame::{END, Told, told_text};
-use crate::judge::faulty_line;
-use crate::operands::operands_in;
 use crate::said::{Part, say};
-use crate::scene::{Row, Scene};
 use redcode_asm::said_by;
 use redcode_expand::{LineKind, SOURCE_LIMIT, predefined};
 use redcode_lines::{Span, has_text, is_name};
+use redcode_scene::{Row, Scene, faulty_line, operands_in};
 use redcode_statement::Statement;
 use redcode_text::Token;
 use std::alloc::{AllocError, Allocator};

@@ -1,7 +1,7 @@
 -- Refusals that stand after others.
 use Rattle.std.proofs.{Common.{◌≡◌, ◌∙◌, ℕ, List, [], ◌∷◌, ◌++◌, All, map, ap, sym, subst, append-nil, append_assoc}, lemmas.List.{map-append}, lemmas.List.Elements.{All-append, All-cons, All-nil}}
 use Rattle.{war_types.specs.declared.fault.AsmFault.AsmFault, redcode_lines.specs.Place.{IsPlaceIn, line_text}}
-use Rattle.redcode_diagnosis.specs.{declared.diagnosis.Diagnosis.Diagnosis, Further.{ArePlaced, PutsFurther}, Told.IsFirst}
+use Rattle.redcode_diagnosis.specs.{declared.diagnosis.Diagnosis.Diagnosis, Further.{ArePlaced, PutsFurther}}
 
 abbrev IsPlaced : {A : Type 0} → List ℕ → Diagnosis A → Type 0
 IsPlaced source d = IsPlaceIn (line_text source d.fault.line) d.column d.width
@@ -19,12 +19,12 @@ after source a b c first second = record {
   placed = All-append (IsPlaced source) first.others second.others first.placed second.placed;
 }
 
--- the first stays the first, and all are placed
-pub first_stays : {A : Type 0} (source : List ℕ) (old new : List (Diagnosis A)) (fault : AsmFault) → PutsFurther source old new
-    → IsFirst fault (map (λ d. d.fault) old) → IsFirst fault (map (λ d. d.fault) new)
-first_stays source old new fault puts first = (
-  first.0 ++ map (λ d. d.fault) puts.others,
-  ap (map (λ d. d.fault)) puts.grown ∙ map-append (λ d. d.fault) old puts.others ∙ ap (λ t. t ++ map (λ d. d.fault) puts.others) first.1,
+-- after those that are told stand others, and all are placed
+pub others_told : {A : Type 0} (source : List ℕ) (old new : List (Diagnosis A)) (due : List AsmFault) → PutsFurther source old new → map (λ d. d.fault) old ≡ due
+    → (others : List AsmFault) × (map (λ d. d.fault) new ≡ due ++ others)
+others_told source old new due puts are = (
+  map (λ d. d.fault) puts.others,
+  ap (map (λ d. d.fault)) puts.grown ∙ map-append (λ d. d.fault) old puts.others ∙ ap (λ t. t ++ map (λ d. d.fault) puts.others) are,
 )
 
 pub all_placed : {A : Type 0} (source : List ℕ) (old new : List (Diagnosis A)) → PutsFurther source old new → ArePlaced source old → ArePlaced source new

@@ -1,2 +1,5 @@
+mod Blanks
 mod Growing
 mod Pushed
+mod Rounds
+mod Told

@@ -1,12 +1,13 @@
 //! The refusals of a source.
 
-ghost use Rattle.std.specs.Prelude.{◌≡◌, All, IfOk, map};
-ghost use Rattle.{redcode_lines.specs.Place.{IsPlaceIn, line_text}, redcode_asm.specs.Assembly.assembly, redcode_diagnosis.specs.Told.{AreToldFrom, IsFirst, Tells, is_memory}};
+ghost use Rattle.std.specs.Prelude.{◌≡◌, All, IfOk, map, true};
+ghost use Rattle.{redcode_lines.specs.Place.{IsPlaceIn, line_text}, redcode_asm.specs.Assembly.assembly, redcode_scene.specs.Faults.{faults_known, faults_of}};
+ghost use Rattle.redcode_diagnosis.specs.{Further.{IsContinued, TellsFurther}, Told.{AreAll, AreToldFrom, Tells, TellsAll, is_memory, is_twice}};
 
 use crate::further::{is_twice, put_further};
 use bumpalo::Bump;
 use redcode_asm::assemble;
-use redcode_blame::{Copied, Scene, blame_of, copy_of, further_faults};
+use redcode_blame::{Copied, Scene, blame_of, copy_of, told_faults};
 use redcode_lines::{line_text, place_in};
 use std::alloc::{AllocError, Allocator};
 use war_types::{AsmFault, AsmKind, Settings};
@@ -38,6 +39,21 @@ pub fn diagnose<A: Allocator + Copy>(
     settings: &Settings,
 ) -> Result<Vec<Diagnosis<A>, A>, AllocError>
     ensures told { IfOk result (λ all. Tells (map (λ d. d.fault) all.items) (assembly settings.now source.now)) }
+    ensures all { IfOk result (λ all. TellsAll settings.now source.now (map (λ d. d.fault) all.items) (assembly settings.now source.now)) }
+    ensures further { IfOk result (λ all. TellsFurther settings.now source.now all.items (assembly settings.now source.now)) }
+    ensures placed { IfOk result (λ all. All (λ d. IsPlaceIn (line_text source.now d.fault.line) d.column d.width) all.items) }
+{
+    diagnoses(alloc, source, settings)
+}
+
+/// All refusals that are due to a source. It fails when memory runs out.
+fn diagnoses<A: Allocator + Copy>(
+    alloc: A,
+    source: &[u8],
+    settings: &Settings,
+) -> Result<Vec<Diagnosis<A>, A>, AllocError>
+    ensures told { IfOk result (λ all. TellsAll settings.now source.now (map (λ d. d.fault) all.items) (assembly settings.now source.now)) }
+    ensures further { IfOk result (λ all. TellsFurther settings.now source.now all.items (assembly settings.now source.now)) }
     ensures placed { IfOk result (λ all. All (λ d. IsPlaceIn (line_text source.now d.fault.line) d.column d.width) all.items) }
 {
     match assemble(alloc, source, settings) {
@@ -53,33 +69,31 @@ fn diagnose_refused<A: Allocator + Copy>(
     settings: &Settings,
     first: AsmFault,
 ) -> Result<Vec<Diagnosis<A>, A>, AllocError>
-    ensures told { IfOk result (λ all. AreToldFrom first (map (λ d. d.fault) all.items)) }
+    ensures told { IfOk result (λ all. AreToldFrom settings.now source.now first (map (λ d. d.fault) all.items)) }
+    ensures further { IfOk result (λ all. IsContinued settings.now source.now first (is_twice first.kind) all.items) }
     ensures placed { IfOk result (λ all. All (λ d. IsPlaceIn (line_text source.now d.fault.line) d.column d.width) all.items) }
 {
     if is_memory(first.kind) {
         return Err(AllocError);
     }
-    let all = told_alone(alloc, source, settings, first)?;
     if is_twice(first.kind) {
-        with_further(alloc, source, settings, first, all)
-    } else {
-        Ok(all)
+        return with_further(alloc, source, settings, first);
     }
+    told_alone(alloc, source, settings, first)
 }
 
-/// The refusals of a source in which a name is defined twice: the first, and those that it has beside that.
+/// The refusals of a source in which a name is defined twice: those from the first on, and those that it has beside that.
 fn with_further<A: Allocator + Copy>(
     alloc: A,
     source: &[u8],
     settings: &Settings,
     first: AsmFault,
-    mut all: Vec<Diagnosis<A>, A>,
 ) -> Result<Vec<Diagnosis<A>, A>, AllocError>
-    requires told { IsFirst first (map (λ d. d.fault) all.items) }
-    requires placed { All (λ d. IsPlaceIn (line_text source.now d.fault.line) d.column d.width) all.items }
-    ensures told { IfOk result (λ all. IsFirst first (map (λ d. d.fault) all.items)) }
+    ensures told { IfOk result (λ all. AreAll settings.now source.now first true (map (λ d. d.fault) all.items)) }
+    ensures further { IfOk result (λ all. IsContinued settings.now source.now first true all.items) }
     ensures placed { IfOk result (λ all. All (λ d. IsPlaceIn (line_text source.now d.fault.line) d.column d.width) all.items) }
 {
+    let mut all = told_alone(alloc, source, settings, first)?;
     put_further(alloc, source, settings, &mut all)?;
     Ok(all)
 }
@@ -91,7 +105,7 @@ fn told_alone<A: Allocator + Copy>(
     settings: &Settings,
     first: AsmFault,
 ) -> Result<Vec<Diagnosis<A>, A>, AllocError>
-    ensures told { IfOk result (λ all. IsFirst first (map (λ d. d.fault) all.items)) }
+    ensures told { IfOk result (λ all. map (λ d. d.fault) all.items ≡ faults_of settings.now source.now first) }
     ensures placed { IfOk result (λ all. All (λ d. IsPlaceIn (line_text source.now d.fault.line) d.column d.width) all.items) }
 {
     let region = Bump::new(alloc);
@@ -106,7 +120,7 @@ fn told_within<'s, A: Allocator + Copy>(
     settings: &'s Settings,
     first: AsmFault,
 ) -> Result<Vec<Diagnosis<A>, A>, AllocError>
-    ensures told { IfOk result (λ all. IsFirst first (map (λ d. d.fault) all.items)) }
+    ensures told { IfOk result (λ all. map (λ d. d.fault) all.items ≡ faults_of settings.entry.now source.entry.now first) }
     ensures placed { IfOk result (λ all. All (λ d. IsPlaceIn (line_text source.entry.now d.fault.line) d.column d.width) all.items) }
 {
     let scene = Scene::new(alloc, region, source, settings)?;
@@ -119,10 +133,11 @@ fn told_from<A: Allocator + Copy>(
     source: &[u8],
     first: AsmFault,
 ) -> Result<Vec<Diagnosis<A>, A>, AllocError>
-    ensures told { IfOk result (λ all. IsFirst first (map (λ d. d.fault) all.items)) }
+    ensures told { IfOk result (λ all.
+        map (λ d. d.fault) all.items ≡ faults_known scene.now.settings.now first scene.now.expanded) }
     ensures placed { IfOk result (λ all. All (λ d. IsPlaceIn (line_text source.now d.fault.line) d.column d.width) all.items) }
 {
-    let faults = faults_from(scene, first)?;
+    let faults = told_faults(scene, first)?;
     told_all(scene, source, faults.as_slice())
 }
 
@@ -131,31 +146,6 @@ pub(crate) fn is_memory(kind: AsmKind) -> bool
     ensures { result ≡ is_memory kind }
 {
     matches!(kind, AsmKind::Memory)
-}
-
-/// The first fault, and the faults of the other lines.
-pub(crate) fn faults_from<A: Allocator + Copy>(
-    scene: &Scene<'_, A>,
-    first: AsmFault,
-) -> Result<Vec<AsmFault, A>, AllocError>
-    ensures { IfOk result (λ all. IsFirst first all.items) }
-{
-    let others = further_faults(scene, first)?;
-    before_others(scene.alloc, first, others.as_slice())
-}
-
-/// The first fault, and the others after it.
-fn before_others<A: Allocator>(
-    alloc: A,
-    first: AsmFault,
-    others: &[AsmFault],
-) -> Result<Vec<AsmFault, A>, AllocError>
-    ensures { IfOk result (λ all. IsFirst first all.items) }
-{
-    let mut all = Vec::new(alloc);
-    all.push(first)?;
-    all.extend_from_slice(others)?;
-    Ok(all)
 }
 
 /// These faults, as they are reported to people.

@@ -3,8 +3,9 @@
 //! `diagnosis` has the refusals of a source, each with its place and its sentence, which are `redcode_blame`'s. `text` writes a refusal
 //! or one of `redcode_warnings`' warnings.
 //!
-//! The main clauses: `diagnose` answers no refusal if `assembly` gives a warrior, and else the assembler's first. Each place lies within
-//! its line (`IsPlaceIn`). `text_of` and `warning_text_of` begin with what and where the fault is (`Text` in `specs`).
+//! The main clauses: `diagnose` answers no refusal if `assembly` gives a warrior, and else the assembler's first and after it those that
+//! `redcode_scene` defines (`TellsAll`). Each place lies within its line (`IsPlaceIn`). `text_of` and `warning_text_of` begin with what
+//! and where the fault is (`Text` in `specs`).
 //!
 //! Nothing here changes what is refused.
 #![tactic(auto)]

@@ -1,12 +1,13 @@
 -- One more, and all of them.
-use Rattle.redcode_diagnosis.proofs.Growing.{after, nothing}
+use Rattle.std.proofs.Common.refl
+use Rattle.redcode_diagnosis.proofs.{Growing.{after, nothing}, Rounds.fault-more}
 use Rattle.redcode_diagnosis.proofs.further.put_all.Goals as goal
 
-pub loop-fault-init : goal.loop-fault-init
-loop-fault-init g c = nothing _ _
+pub loop-rest-init : goal.loop-rest-init
+loop-rest-init g c = (nothing _ _, refl)
 
-pub loop-fault-preserved : goal.loop-fault-preserved
-loop-fault-preserved g c = after _ _ _ _ c.loop-fault.invariant c.in_ok-put_new.ensures
+pub loop-rest-preserved : goal.loop-rest-preserved
+loop-rest-preserved g c = (after _ _ _ _ c.loop-rest.invariant.0 c.in_ok-put_new.ensures.grown, ?)
 
-pub returns : goal.returns
-returns g c = c.loop-fault.invariant
+pub returns-clause-grown : goal.returns-clause-grown
+returns-clause-grown g c = c.loop-rest.invariant.0

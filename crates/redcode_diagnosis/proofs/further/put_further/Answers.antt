@@ -1,12 +1,6 @@
--- One round more, and all of them.
-use Rattle.redcode_diagnosis.proofs.Growing.{after, nothing}
+-- The rounds begin with the source as it is.
+use Rattle.redcode_diagnosis.proofs.Rounds.on-ok
 use Rattle.redcode_diagnosis.proofs.further.put_further.Goals as goal
 
-pub loop-init : goal.loop-init
-loop-init g c = nothing _ _
-
-pub loop-preserved : goal.loop-preserved
-loop-preserved g c = after _ _ _ _ c.loop.invariant c.in_ok-put_round.ensures
-
-pub returns-in_default : goal.returns-in_default
-returns-in_default g c = c.loop.invariant
+pub returns-clause-further : goal.returns-clause-further
+returns-clause-further g c = ?

@@ -21,7 +21,7 @@ const PREDEFINED: [&str; 8] = [
 
 /// What a name may be.
 #[derive(Clone, Copy)]
-pub(crate) enum Role {
+pub enum Role {
     Label,
     /// The name of an `EQU`.
     Equ,
@@ -30,7 +30,7 @@ pub(crate) enum Role {
 }
 
 /// The number of the first line that defines this name so, if its number is below a limit.
-pub(crate) fn definition<A: Allocator + Copy>(
+pub fn definition<A: Allocator + Copy>(
     scene: &Scene<'_, A>,
     role: Role,
     name: &[u8],
@@ -61,8 +61,21 @@ fn defines(line: &Reading<'_, '_>, role: Role, name: &[u8]) -> bool {
     }
 }
 
+/// The first of the tokens that is the name of an `EQU`.
+pub fn first_equ<'t, 's, A: Allocator + Copy>(
+    scene: &Scene<'_, A>,
+    tokens: &'t [Token<'s>],
+) -> Option<&'t Token<'s>> {
+    for token in tokens {
+        if is_name(token) && definition(scene, Role::Equ, token.text, u32::MAX).is_some() {
+            return Some(token);
+        }
+    }
+    None
+}
+
 /// The last name among these tokens.
-pub(crate) fn last_name<'s>(tokens: &[Token<'s>]) -> Option<&'s [u8]> {
+pub fn last_name<'s>(tokens: &[Token<'s>]) -> Option<&'s [u8]> {
     let mut last = None;
     for token in tokens {
         if is_name(token) {
@@ -73,7 +86,7 @@ pub(crate) fn last_name<'s>(tokens: &[Token<'s>]) -> Option<&'s [u8]> {
 }
 
 /// Whether a name is among these tokens.
-pub(crate) fn is_among(tokens: &[Token<'_>], name: &[u8]) -> bool {
+pub fn is_among(tokens: &[Token<'_>], name: &[u8]) -> bool {
     for token in tokens {
         if is_name(token) && token.text == name {
             return true;
@@ -83,7 +96,7 @@ pub(crate) fn is_among(tokens: &[Token<'_>], name: &[u8]) -> bool {
 }
 
 /// The name nearest to one that nothing defines: a label, the name of an `EQU` or a predefined name.
-pub(crate) fn nearest_name<'s, A: Allocator + Copy>(
+pub fn nearest_name<'s, A: Allocator + Copy>(
     scene: &Scene<'s, A>,
     name: &[u8],
 ) -> Result<Option<&'s [u8]>, AllocError> {

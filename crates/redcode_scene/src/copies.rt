@@ -49,7 +49,7 @@ pub fn copy_of<A: Allocator + Copy>(
 
 /// The blocks around a line.
 #[derive(Clone, Copy)]
-pub(crate) struct Around {
+pub struct Around {
     /// The line of the innermost block's `FOR`.
     pub innermost: Option<u32>,
     pub count: u32,
@@ -58,7 +58,7 @@ pub(crate) struct Around {
 }
 
 /// The blocks that are open before the line of this number.
-pub(crate) fn blocks_around<A: Allocator>(lines: &[SourceLine<'_, A>], number: u32) -> Around {
+pub fn blocks_around<A: Allocator>(lines: &[SourceLine<'_, A>], number: u32) -> Around {
     let mut around = Around {
         innermost: None,
         count: 0,

@@ -82,7 +82,7 @@ fn edits<A: Allocator + Copy>(alloc: A, from: &[u8], to: &[u8]) -> Result<usize,
 }
 
 /// The reserved word that is nearest to one that is none.
-pub(crate) fn nearest_word<A: Allocator + Copy>(
+pub fn nearest_word<A: Allocator + Copy>(
     alloc: A,
     text: &[u8],
 ) -> Result<Option<&'static [u8]>, AllocError> {
@@ -101,11 +101,11 @@ fn nearest_upper<A: Allocator + Copy>(
 }
 
 /// Whether a name is an operation.
-pub(crate) fn is_operation(name: &[u8]) -> bool {
+pub fn is_operation(name: &[u8]) -> bool {
     matches!(word_of(name), Some(Word::Operation(_)))
 }
 
 /// Whether a name is a reserved word.
-pub(crate) fn is_reserved(name: &[u8]) -> bool {
+pub fn is_reserved(name: &[u8]) -> bool {
     word_of(name).is_some()
 }

@@ -1,5 +1,8 @@
 //! What is known of a source that is refused.
 
+ghost use Rattle.std.specs.Prelude.{IfOk};
+ghost use Rattle.redcode_scene.specs.Faults.{KnowsOf};
+
 use bumpalo::Bump;
 use redcode_expand::{Expanded, SOURCE_LIMIT, expand};
 use redcode_lines::{
@@ -26,13 +29,19 @@ pub struct Scene<'s, A: Allocator + Copy> {
 }
 
 impl<'s, A: Allocator + Copy> Scene<'s, A> {
+    ghost use Rattle.std.specs.Prelude.{◌≡◌, IfOk};
+    ghost use Rattle.redcode_scene.specs.Faults.{KnowsOf};
+
     /// What is known of a source. It fails when memory runs out.
     pub fn new(
         alloc: A,
         region: &'s Bump<A>,
         source: &'s [u8],
         settings: &'s Settings,
-    ) -> Result<Scene<'s, A>, AllocError> {
+    ) -> Result<Scene<'s, A>, AllocError>
+        ensures settings { IfOk result (λ scene. scene.settings.now ≡ settings.entry.now) }
+        ensures knows { IfOk result (λ scene. KnowsOf settings.entry.now source.entry.now scene.expanded) }
+    {
         let lines = lines_of(alloc, source)?;
         match expanded_of(alloc, region, source, settings) {
             Ok(expanded) => Ok(Scene {
@@ -47,7 +56,7 @@ impl<'s, A: Allocator + Copy> Scene<'s, A> {
     }
 
     /// How the line of this number stands in the source, if it says something.
-    pub(crate) fn row(&self, number: u32) -> Option<Row<'_, 's>> {
+    pub fn row(&self, number: u32) -> Option<Row<'_, 's>> {
         for line in &self.lines {
             if line.number() == number {
                 let reading = line.reading();
@@ -59,7 +68,7 @@ impl<'s, A: Allocator + Copy> Scene<'s, A> {
     }
 
     /// The whole of a line.
-    pub(crate) fn whole(&self, number: u32) -> Span {
+    pub fn whole(&self, number: u32) -> Span {
         match self.row(number) {
             Some(row) => row.whole(),
             None => whole(line_text(self.source, number)),
@@ -69,7 +78,7 @@ impl<'s, A: Allocator + Copy> Scene<'s, A> {
 
 /// A line as it stands in the source.
 #[derive(Clone, Copy)]
-pub(crate) struct Row<'l, 's> {
+pub struct Row<'l, 's> {
     pub reading: Reading<'l, 's>,
     /// Bytes of the line before the text that its tokens come from.
     pub shift: u32,
@@ -77,20 +86,28 @@ pub(crate) struct Row<'l, 's> {
 
 impl<'l, 's> Row<'l, 's> {
     /// The place of one of its tokens.
-    pub(crate) fn span(&self, token: &Token<'_>) -> Span {
+    pub fn span(&self, token: &Token<'_>) -> Span {
         span_of(self.shift, token)
     }
 
     /// From the first of some of its tokens to the last; the whole statement if there are none.
-    pub(crate) fn spans(&self, tokens: &[Token<'_>]) -> Span {
+    pub fn spans(&self, tokens: &[Token<'_>]) -> Span {
         match spans_of(self.shift, tokens) {
             Some(span) => span,
             None => self.whole(),
         }
     }
 
+    /// The place of its word, or of the whole line if it has none.
+    pub fn word(&self) -> Span {
+        match (self.reading.word, self.reading.tokens) {
+            (Some(_), [word, ..]) => self.span(word),
+            _ => self.whole(),
+        }
+    }
+
     /// From its first token to its last; all of the line if it has none.
-    pub(crate) fn whole(&self) -> Span {
+    pub fn whole(&self) -> Span {
         let front = spans_of(self.shift, self.reading.front);
         let others = spans_of(self.shift, self.reading.tokens);
         match (front, others) {
@@ -122,7 +139,9 @@ fn expanded_of<'s, A: Allocator + Copy>(
     region: &'s Bump<A>,
     source: &'s [u8],
     settings: &Settings,
-) -> Result<Option<Expanded<'s, A>>, AllocError> {
+) -> Result<Option<Expanded<'s, A>>, AllocError>
+    ensures { IfOk result (λ expanded. KnowsOf settings.now source.entry.now expanded) }
+{
     match expand(alloc, region, source, settings) {
         Ok(expanded) => Ok(Some(expanded)),
         Err(fault) => match fault.kind {

@@ -1,0 +1,2 @@
+-- the faults of a source's lines that are told
+pub mod Faults
