@@ -1,2 +1,7 @@
+mod JsonLines
 mod Parts
+mod Replies
 mod Rows
+mod Shown
+mod Sources
+mod Tried

@@ -1,2 +1,13 @@
+-- How the program ends with a reply.
+pub mod ReplyStatus
+-- What became of a submission.
+pub mod Placing
+-- The lines of JSON of a submission.
+pub mod Json
 -- The settings of a hill, as options.
 pub mod Settings
+-- What each command on a hill writes and how it ends.
+pub mod Hills
+-- What `try` writes, and how it ends.
+pub mod Trials
+pub mod Page

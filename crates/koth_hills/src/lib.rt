@@ -1,10 +1,33 @@
-//! What the commands on a hill need of it beside its store: its settings as options.
+//! What authors do with a hill in a file: they submit a warrior, try one, look at the hill and make its page.
 //!
-//! It knows a hill and its settings, and no store, files or terminals.
+//! Each command is a function of what the command line asks. It returns an answer, or why there is none, and who calls it
+//! delivers that. The files are `koth_files`'. The modules:
 //!
-//! - `settings`: the settings of a hill, as options that can be pasted.
+//! - `damage`: what is told of a header that can't be read, before the hill is opened;
+//! - `submit`, `trial`, `show`, `page`: a command each;
+//! - `outcome` and `json`: what became of a warrior, for people and as lines of JSON;
+//! - `settings`: the settings of a hill, as options that can be pasted;
+//! - `reply_status`: how the program ends with a reply.
+//!
+//! The main clauses: `submit` answers with the line of the reply that this very submission had (`Submitted`), `try` with
+//! that of the reply which it would have, and the store is as it was (`Tried`, `unchanged`), and `show` with the table of
+//! this store's hill, or its settings (`sight_text`). Of files no contract can say what they hold.
+//!
+//! A hill must be opened before a source is read. `try`, `show` and `page` take no lock and write nothing.
 #![tactic(auto)]
 
+mod damage;
+mod json;
+mod outcome;
+mod page;
+mod reply_status;
 mod settings;
+mod show;
+mod submit;
+mod trial;
 
-pub use settings::settings_text;
+pub use damage::tell_lost_header;
+pub use page::perform_page;
+pub use show::perform_show;
+pub use submit::perform_submit;
+pub use trial::perform_try;

@@ -10,7 +10,7 @@ use war_types::{RawSettings, Settings};
 
 /// The settings of a hill as a line of options, which `koth` takes as they stand: the seed among them only if that is asked for. The error is
 /// lack of memory.
-pub fn settings_text<A: Allocator>(
+pub(crate) fn settings_text<A: Allocator>(
     alloc: A,
     settings: &Settings,
     with_seed: bool,

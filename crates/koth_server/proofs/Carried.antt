@@ -11,8 +11,8 @@ use Rattle.{war_types.specs.{Warrior.WarriorParts, declared.fault.AsmFault.AsmFa
 use Rattle.koth_commands.specs.{Streams.{Streams, is_input, source_name, streams, unread}, Trouble.{Tells, no_memory}, declared.status.Status.{Status, TheVariants.{NoMemory, WordFault}}}
 use Rattle.koth_commands.proofs.Told.{kept_part, writes_nothing}
 use Rattle.koth_keeping.specs.{Answers.{Answers, AnswersGiven, Ends, Outcome, SaysLine}, Created.{MayCreate, SaysCreated}, Audit.SaysAudit, Copies.{MayReseed, SaysCopied}, Migration.migrated_line, Seed.seed_hint}
-use Rattle.koth_server.specs.Hills.{AfterNote, EndsServe, EndsService, EndsSource, SaysReply, SaysShown, TellsNote, listening_line, sight_of}
-use Rattle.koth_server.specs.{Page.SaysPage, Trials.SaysTrial, Run.{CommandEnds, EndsRequest, EndsRequestUnder, EndsHelp, EndsWithout, AreWatched, FightEnds, ReplayEnds, manner_in, name_at, names_in, sight_in, viewed}, Settled.{AreSettled, EndsBy, EndsSettled, EndsUnderGiven, TellsNoHill, names_hill}}
+use Rattle.koth_hills.specs.{Hills.{AfterNote, EndsSource, SaysReply, SaysShown, TellsNote, sight_of}, Page.SaysPage, Trials.SaysTrial}
+use Rattle.koth_server.specs.{Serving.{EndsServe, EndsService, listening_line}, Run.{CommandEnds, EndsRequest, EndsRequestUnder, EndsHelp, EndsWithout, AreWatched, FightEnds, ReplayEnds, manner_in, name_at, names_in, sight_in, viewed}, Settled.{AreSettled, EndsBy, EndsSettled, EndsUnderGiven, TellsNoHill, names_hill}}
 use Rattle.koth_words.specs.declared.requests.{Fighters.Fighters, Round.Round}
 use Rattle.koth_contests.specs.{Fight.{EndsFight, EndsFightUnder}, Replay.{EndsReplay, EndsReplayUnder, with_round}}
 

@@ -1,9 +1,4 @@
 mod Carried
-mod JsonLines
 mod Logged
 mod Performed
-mod Replies
-mod Shown
-mod Sources
 mod Statuses
-mod Tried

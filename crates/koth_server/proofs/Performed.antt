@@ -2,7 +2,7 @@
 use Rattle.std.proofs.Common.{◌≡◌, ℕ, Bool, List, Option, None, IfOk, sym, subst}
 use Rattle.{war_types.specs.declared.settings.RawSettings.RawSettings, koth_words.specs.declared.requests.{Request.Request, View.View}}
 use Rattle.koth_commands.specs.{Answer.{AnswerParts, Delivers}, Streams.{From, streams}, declared.status.Status.Status}
-use Rattle.{koth_keeping.specs.Answers.{Ends, Outcome}, koth_server.specs.{Hills.{AfterNote, AnswersSource, EndsSource, TellsNote}, Run.{CommandEnds, EndsRequestUnder}}}
+use Rattle.{koth_keeping.specs.Answers.{Ends, Outcome}, koth_hills.specs.Hills.{AfterNote, AnswersSource, EndsSource, TellsNote}, koth_server.specs.Run.{CommandEnds, EndsRequestUnder}}
 use Rattle.koth_server.proofs.{Carried.request_ends, Statuses.{IsNone, delivered}}
 
 module _ (settings : RawSettings) (view : View) (request asked : Request) (status : Status) (i j o p e n f : Option (List ℕ)) (outcome found : Outcome)

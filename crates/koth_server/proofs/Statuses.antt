@@ -1,16 +1,10 @@
 -- No answer and no fault ends as one of the arguments does.
-use Rattle.std.proofs.Common.{◌≡◌, ◌≢◌, ◌⊎◌, ◌∙◌, ℕ, Bool, true, false, List, Option, Result, Ok, Err, None, Some, IfOk, sym, ap, inl, inr}
-use Rattle.{war_types.specs.declared.fault.AsmFault.AsmFault, war_types.specs.declared.settings.{RawSettings.RawSettings, SettingsFault.SettingsFault}, war_types.specs.Settings.settings_of}
+use Rattle.std.proofs.Common.{◌≡◌, ◌≢◌, ◌∙◌, ℕ, Bool, true, false, List, Option, Result, Ok, Err, None, Some, IfOk, sym, ap, inl, inr}
+use Rattle.war_types.specs.{declared.settings.{RawSettings.RawSettings, SettingsFault.SettingsFault}, Settings.settings_of}
 use Rattle.{koth_hill.specs.declared.untrue.Untrue.Untrue, hill_store.specs.declared.reply.Reply.Reply}
 use Rattle.koth_commands.specs.{Answer.{AnswerParts, Delivers, answer_parts}, Streams.From, Trouble.fault_status, declared.{status.Status.Status, trouble.{Fault.Fault}}}
 use Rattle.koth_keeping.specs.{Answers.{Answers, AnswersGiven, Outcome, SaysLine}, Audit.{SaysAudit, audit_answer}, Copies.{MayReseed, SaysCopied}, Migration.migrated_line, Created.{MayCreate, SaysCreated}, Seed.seed_hint}
-use Rattle.{koth_words.specs.declared.requests.View.View, koth_server.specs.{Hills.{AnswersSource, SaysReply, SaysShown, Sight}, Trials.SaysTrial, Page.SaysPage, ReplyStatus.reply_status}}
-
-pub refused-status : (reply : Reply) → ((fault : AsmFault) × (reply ≡ Reply.Refused fault)) ⊎ (reply ≡ Reply.Worn) → Status.Refused ≡ reply_status reply
-refused-status reply is = elim is [
-  | inl refused ↦ sym (ap reply_status refused.1)
-  | inr worn ↦ sym (ap reply_status worn)
-]
+use Rattle.{koth_words.specs.declared.requests.View.View, koth_hills.specs.{Hills.{AnswersSource, SaysReply, SaysShown, Sight}, Trials.SaysTrial, Page.SaysPage, ReplyStatus.reply_status}}
 
 pub never-words : (fault : Fault) → fault_status fault ≡ Status.WordFault → ⊥
 never-words (Fault.Settings fault) is = absurd (cc)

@@ -7,8 +7,8 @@ use Rattle.koth_words.specs.{declared.requests.Request.Request, declared.request
 use Rattle.{koth_words.specs.declared.requests.View.View, koth_commands.specs.{Asm.EndsAsmFrom, Check.{EndsCheck, names_of}, Report.{Manner, manner_of}}}
 use Rattle.koth_commands.specs.{Status.status_code, Streams.{Streams, is_input, unread}, Trouble.{Tells, no_memory}, declared.status.Status.Status}
 use Rattle.koth_keeping.specs.{Answers.{Answers, Ends, SaysLine}, Created.MayCreate, Audit.SaysAudit, Copies.{MayReseed, SaysCopied}, Migration.migrated_line}
-use Rattle.koth_server.specs.{Hills.{AfterNote, EndsServe, EndsSource, SaysReply, SaysShown, Sight, sight_of}, Trials.SaysTrial, Page.SaysPage}
-use Rattle.koth_server.specs.Settled.{EndsBy, EndsSettled}
+use Rattle.koth_hills.specs.{Hills.{AfterNote, EndsSource, SaysReply, SaysShown, Sight, sight_of}, Trials.SaysTrial, Page.SaysPage}
+use Rattle.koth_server.specs.{Serving.EndsServe, Settled.{EndsBy, EndsSettled}}
 
 -- the code is that of a status of which this holds
 abbrev pub Leaves : ℕ → (Status → Type 0) → Type 0

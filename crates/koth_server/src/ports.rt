@@ -1,7 +1,7 @@
 //! The ports of a service: where peers and browsers connect.
 
 ghost use Rattle.std.specs.Prelude.{◌≡◌, IfErr, MatchResult};
-ghost use Rattle.{koth_files.specs.Trouble.IsOfHill, koth_server.specs.Hills.{listening_line, Announces, AnnouncesPart}};
+ghost use Rattle.{koth_files.specs.Trouble.IsOfHill, koth_server.specs.Serving.{listening_line, Announces, AnnouncesPart}};
 
 use koth_commands::trouble::Trouble;
 use koth_commands::{Cause, Subject, reason_of, write_whole};

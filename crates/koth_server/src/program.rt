@@ -3,13 +3,8 @@
 ghost use Rattle.std.specs.Prelude.{◌≡◌, None, map, string_bytes};
 ghost use Rattle.{koth_commands.specs.Streams.streams, koth_server.specs.Run.{viewed, EndsRequest, EndsRequestUnder, EndsRun, EndsWithout, Leaves}};
 
-use crate::damage::tell_lost_header;
-use crate::page::perform_page;
 use crate::serve::serve;
 use crate::settled::settled;
-use crate::show::perform_show;
-use crate::submit::perform_submit;
-use crate::trial::perform_try;
 use hill_file::TryLock;
 use koth_commands::asm::asm;
 use koth_commands::check::check;
@@ -17,6 +12,7 @@ use koth_commands::trouble::Trouble;
 use koth_commands::{Answer, Status, deliver, write_whole};
 use koth_contests::fight::fight;
 use koth_contests::replay::replay;
+use koth_hills::{perform_page, perform_show, perform_submit, perform_try, tell_lost_header};
 use koth_keeping::{perform_audit, perform_copy, perform_create, perform_migrate, perform_reseed};
 use koth_service::LogWrite;
 use koth_words::{NoRequest, Request, View, parse};

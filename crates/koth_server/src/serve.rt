@@ -2,7 +2,7 @@
 
 ghost use Rattle.std.specs.Prelude.{◌≡◌, ◌≢◌, None, false, IfErr, IfOk, MatchResult};
 ghost use Rattle.{war_types.specs.Settings.settings_of, koth_commands.specs.{Streams.streams, Told.WritesSome}, koth_files.specs.Trouble.IsOfHill};
-ghost use Rattle.koth_server.specs.Hills.{Announces, AnnouncesPart, EndsServe, EndsService};
+ghost use Rattle.koth_server.specs.Serving.{Announces, AnnouncesPart, EndsServe, EndsService};
 
 use crate::host::{Hosting, trouble_of};
 use crate::log::Log;

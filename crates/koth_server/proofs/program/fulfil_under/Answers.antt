@@ -1,7 +1,7 @@
 -- Each command ends as its request says, and none of them ends as at a fault of the arguments.
 use Rattle.{std.proofs.Common.{ap, is_some, subst, sym}, war_types.specs.Settings.settings_of, koth_commands.specs.{Check.names_of, Report.manner_of, Streams.{From, is_input, streams}}}
 use Rattle.koth_keeping.specs.{Answers.{Answers, SaysLine}, Audit.SaysAudit, Copies.{MayReseed, SaysCopied}, Created.MayCreate, Migration.migrated_line}
-use Rattle.koth_server.specs.{Hills.{AnswersSource, SaysReply, SaysShown, TellsNote, sight_of}, Page.SaysPage, Run.viewed, Trials.SaysTrial}
+use Rattle.{koth_hills.specs.{Hills.{AnswersSource, SaysReply, SaysShown, TellsNote, sight_of}, Page.SaysPage, Trials.SaysTrial}, koth_server.specs.Run.viewed}
 use Rattle.koth_server.proofs.{Carried.{asm_no_word, check_no_word, fight_no_word, replay_no_word, request_ends}, Performed.{noted, of_source, plain}}
 use Rattle.koth_server.proofs.Statuses.{audited, copied, created, migrated, paged, replied, reseeded, shown, tried}
 use Rattle.koth_server.proofs.program.fulfil_under.Goals.{in-Create, in-Migrate, in-Submit, in-Try, in-Show, in-Page, in-Audit, in-Copy, in-Reseed}

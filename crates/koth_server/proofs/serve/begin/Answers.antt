@@ -1,5 +1,5 @@
 -- Before the line nothing was written.
-use Rattle.{koth_commands.proofs.Told.none_yet, koth_server.specs.Hills.listening_line}
+use Rattle.{koth_commands.proofs.Told.none_yet, koth_server.specs.Serving.listening_line}
 use Rattle.koth_server.proofs.serve.begin.Goals as goal
 
 pub returns-in-Err-clause-announced : goal.returns-in-Err-clause-announced

@@ -1,5 +1,5 @@
 -- A service ends after its line and its log, or with a fault.
-use Rattle.{std.proofs.Common.{◌∙◌, inl, inr, refl, sym}, koth_commands.proofs.Told.{whole_part, writes_more}, koth_server.specs.Hills.listening_line}
+use Rattle.{std.proofs.Common.{◌∙◌, inl, inr, refl, sym}, koth_commands.proofs.Told.{whole_part, writes_more}, koth_server.specs.Serving.listening_line}
 use Rattle.koth_server.proofs.{Logged.is_log, Statuses.never-words}
 use Rattle.koth_server.proofs.serve.serve_under.Goals as goal
 

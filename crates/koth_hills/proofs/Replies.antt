@@ -1,0 +1,60 @@
+-- The answer to a source.
+use Rattle.std.proofs.Common.{◌≡◌, ◌≢◌, ◌⊎◌, ◌∙◌, ℕ, List, [], Option, None, Some, Result, Ok, Err, OnErr, IfSome, false, true≢false, inl, inr, refl, ap, sym, subst}
+use Rattle.{war_types.specs.declared.fault.AsmFault.AsmFault, koth_hill.specs.Kept.Kept, sector_disk.specs.Facts.DeviceFacts, hill_store.specs.{Seen.{Seen, Submits}, declared.reply.Reply.Reply}}
+use Rattle.{koth_words.specs.declared.requests.View.View, koth_views.specs.{Roster.roster, declared.entrants.Entered.Entered}, koth_commands.specs.{Answer.AnswerParts, declared.status.Status.Status}}
+use Rattle.koth_hills.specs.{Hills.{AnswersReply, IsOutcome, IsPlacing, SaysReply, Submitted}, Json.{AreMatches, IsRefused}, ReplyStatus.reply_status}
+
+-- a source that is refused, and one for which the device is worn out, end so
+pub refused-status : (reply : Reply) → ((fault : AsmFault) × (reply ≡ Reply.Refused fault)) ⊎ (reply ≡ Reply.Worn) → Status.Refused ≡ reply_status reply
+refused-status reply is = elim is [
+  | inl refused ↦ sym (ap reply_status refused.1)
+  | inr worn ↦ sym (ap reply_status worn)
+]
+
+-- what became of the warrior is written if it is known who stood on the hill
+pub is_placing : {V : Type 0} (items : V → List Entered) (view : View) (old new : Kept) (source : List ℕ) (reply : Reply) (stood : Option V) (more : List ℕ)
+    → IfSome stood (λ v. items v ≡ roster old) → (view ≡ View.Plain → more ≡ []) → (view ≡ View.Table → stood ≡ None → more ≡ [])
+    → (view ≡ View.Table → IfSome stood (λ v. (more ≡ []) ⊎ IsOutcome (items v) new source reply more))
+    → (view ≡ View.Json → (more ≡ []) ⊎ AreMatches new source reply more) → IsPlacing view old new source reply more
+is_placing items View.Plain old new source reply stood more known plain none some json = plain refl
+is_placing items View.Table old new source reply None more known plain none some json = inl (none refl refl)
+is_placing items View.Table old new source reply (Some v) more known plain none some json = elim (some refl) [
+  | inl is ↦ inl is
+  | inr is ↦ inr (subst (λ r. IsOutcome r new source reply more) known is)
+]
+is_placing items View.Json old new source reply stood more known plain none some json = json refl
+
+-- without memory for it nothing is
+placed_none : (view : View) (old new : Kept) (source : List ℕ) (reply : Reply) → IsPlacing view old new source reply []
+placed_none View.Plain old new source reply = refl
+placed_none View.Table old new source reply = inl refl
+placed_none View.Json old new source reply = inl refl
+
+-- what holds if there was no memory, seen another way
+pub on_err : {T E : Type 0} (result : Result T E) (P Q : Type 0) → (P → Q) → OnErr result P → OnErr result Q
+on_err (Ok x) P Q holds p = tt
+on_err (Err e) P Q holds p = holds p
+
+module _ {D : Type 0} (facts : DeviceFacts D) (old new : Seen D) (source : List ℕ) (view : View) where
+  -- the answer to a submission, from that to its reply
+  pub submitted : (reply : Reply) (more : List ℕ) (answer : AnswerParts) → Submits facts old source reply new
+      → IsPlacing view old.hill new.hill source reply more → AnswersReply view reply more answer ⊎ AnswersReply view reply [] answer
+      → Submitted facts old source new view answer
+  submitted reply more answer submits placing (inl whole) = (reply, submits, (more, placing, whole))
+  submitted reply more answer submits placing (inr line) = (reply, submits, ([], placed_none view old.hill new.hill source reply, line))
+
+  -- a hill that was open answers no `REOPEN`
+  never_reopen : (reply : Reply) → Submits facts old source reply new → old.reopen ≡ false → reply ≢ Reply.Reopen
+  never_reopen reply submits is_open is =
+      let reopened : Submits facts old source Reply.Reopen new = subst (λ r. Submits facts old source r new) is submits in
+      true≢false (sym reopened.0 ∙ is_open)
+
+  -- a refusal changes nothing
+  pub refused_left : (reply : Reply) → Submits facts old source reply new → IsRefused reply → new ≡ old
+  refused_left reply submits (fault, is) =
+      let left : Submits facts old source (Reply.Refused fault) new = subst (λ r. Submits facts old source r new) is submits in
+      left.2.same
+
+  -- its answer is that of some hill
+  pub says_reply : (answer : AnswerParts) → old.reopen ≡ false → Submitted facts old source new view answer → SaysReply view source answer
+  says_reply answer is_open (reply, submits, said) = (old.hill, new.hill, reply, never_reopen reply submits is_open, said)

@@ -1,0 +1,19 @@
+-- The table of a hill, with the matrix of its matches or without.
+use Rattle.{std.proofs.Common.{◌≡◌, ◌∙◌, ℕ, Bool, true, false, true≢false, List, ◌++◌, ap, append_assoc, codes, sym}, koth_hill.specs.Kept.{Kept, table_kept}}
+use Rattle.{koth_protocol.specs.{Matches.matches_text, Table.show_text}, koth_views.specs.{Matrix.matches_view, Standing.hill_view}, koth_hills.specs.Hills.{shown_lines, shown_table}}
+
+pub shown_with : (matches : Bool) (hill : Kept) (shown matrix items : List ℕ) → matches ≡ true → shown ≡ show_text (table_kept hill)
+    → matrix ≡ matches_text hill → items ≡ shown ++ matrix → items ≡ shown_lines matches hill
+shown_with true hill shown matrix items asked table_is matrix_is is = is ∙ ap (λ t. t ++ matrix) table_is ∙ ap (λ t. show_text (table_kept hill) ++ t) matrix_is
+shown_with false hill shown matrix items asked table_is matrix_is is = absurd (true≢false (sym asked))
+
+pub shown_alone : (matches : Bool) (hill : Kept) (items : List ℕ) → matches ≡ false → items ≡ show_text (table_kept hill) → items ≡ shown_lines matches hill
+shown_alone true hill items asked is = absurd (true≢false asked)
+shown_alone false hill items asked is = is
+
+-- the table for people, an empty line and the matrix
+pub table_of_parts : (hill : Kept) (table more matrix items : List ℕ) → table ≡ hill_view hill → more ≡ table ++ codes "\n" → matrix ≡ matches_view hill
+    → items ≡ more ++ matrix → items ≡ shown_table true hill
+table_of_parts hill table more matrix items table_is more_is matrix_is is =
+    is ∙ ap (λ t. t ++ matrix) (more_is ∙ ap (λ t. t ++ codes "\n") table_is) ∙ append_assoc (hill_view hill) (codes "\n") matrix
+    ∙ ap (λ t. hill_view hill ++ (codes "\n" ++ t)) matrix_is

@@ -1,0 +1,48 @@
+-- What a source that is tried is due, and how that is answered.
+use Rattle.std.proofs.Common.{◌≡◌, ◌⊎◌, ℕ, List, [], Option, None, Some, Result, Ok, Err, IfOk, inl, inr, refl, subst}
+use Rattle.{koth_hill.specs.{Kept.Kept, declared.verdict.Verdict.Verdict}, sector_disk.specs.Facts.DeviceFacts}
+use Rattle.hill_store.specs.{declared.reply.Reply.Reply, Earned.kept_reply, Read.{IsJudged, IsTried}, Seen.{Seen, Submits}}
+use Rattle.{koth_words.specs.declared.requests.View.View, koth_commands.specs.Answer.AnswerParts}
+use Rattle.koth_hills.specs.{Hills.AnswersReply, Json.IsDue, Trials.{IsTrialText, SaysTrial, Tried}}
+
+-- what holds on success, seen another way
+pub if_ok : {T E : Type 0} (result : Result T E) (P Q : T → Type 0) → ((x : T) → P x → Q x) → IfOk result P → IfOk result Q
+if_ok (Ok x) P Q holds p = holds x p
+if_ok (Err e) P Q holds p = tt
+
+-- without memory for the matches nothing is told of them
+told_none : (view : View) (hill : Kept) (judged : Verdict) → IsTrialText view hill judged []
+told_none View.Plain hill judged = refl
+told_none View.Table hill judged = inl refl
+told_none View.Json hill judged = inl refl
+
+module _ {D : Type 0} (facts : DeviceFacts D) (store : Seen D) (source : List ℕ) where
+  -- the answer that foretells
+  pub foretold : (view : View) (judged : Verdict) (reply : Reply) (more : List ℕ) (answer : AnswerParts) → IsDue store.hill source judged
+      → reply ≡ kept_reply store.hill source → IsTrialText view store.hill judged more → AnswersReply view reply more answer ⊎ AnswersReply view reply [] answer
+      → Tried facts store source view answer
+  foretold view judged reply more answer due earned told (inl whole) =
+      (reply, more, inl (record { judged = judged; due = due; earned = earned; told = told }), whole)
+  foretold view judged reply more answer due earned told (inr line) =
+      (reply, [], inl (record { judged = judged; due = due; earned = earned; told = told_none view store.hill judged }), line)
+
+  -- or the reply of a submission that changes nothing
+  pub answered : (view : View) (reply : Reply) (answer : AnswerParts) → Submits facts store source reply store
+      → AnswersReply view reply [] answer ⊎ AnswersReply view reply [] answer → Tried facts store source view answer
+  answered view reply answer submits (inl line) = (reply, [], inr (submits, refl), line)
+  answered view reply answer submits (inr line) = (reply, [], inr (submits, refl), line)
+
+  -- the answer of a store's hill is that of some hill
+  pub says_trial : (view : View) (answer : AnswerParts) → Tried facts store source view answer → SaysTrial view source answer
+  says_trial view answer (reply, more, inl foretold, says) = (store.hill, reply, more, inl foretold, says)
+  says_trial view answer (reply, more, inr other, says) = (store.hill, reply, more, inr other.1, says)
+
+  module _ (r : Option (Result Verdict Reply)) (tried : IsTried facts None store source r) where
+    pub judged_of : (judged : Verdict) → r ≡ Some (Ok judged) → IsJudged store source judged
+    judged_of judged is = subst (λ r. IsTried facts None store source r) is tried
+
+    pub due_of : (judged : Verdict) → r ≡ Some (Ok judged) → IsDue store.hill source judged
+    due_of judged is = let due = judged_of judged is in (due.warrior, due.assembled, due.verdict)
+
+    pub replied_of : (reply : Reply) → r ≡ Some (Err reply) → Submits facts store source reply store
+    replied_of reply is = subst (λ r. IsTried facts None store source r) is tried

@@ -1,0 +1,108 @@
+-- What the commands on a hill in a file answer, and how they end.
+use Rattle.std.specs.{Prelude.{◌≡◌, ◌≢◌, ◌⊎◌, ℕ, Bool, if◌then◌else◌, List, [], Option, ◌++◌, Ok, Err, codes}, Io.KnownBytes.{Consumes, Keeps}}
+use Rattle.{war_types.specs.declared.fault.AsmFault.AsmFault, koth_hill.specs.{Kept.{Kept, table_kept}, declared.verdict.Verdict.Verdict}, sector_disk.specs.Facts.DeviceFacts}
+use Rattle.{hill_store.specs.{Seen.{Seen, Submits}, declared.reply.Reply.Reply}, koth_protocol.specs.{Matches.matches_text, Table.show_text}, koth_session.specs.Reply.reply_line}
+use Rattle.{koth_json.specs.Hill.hill_text, koth_words.specs.{Settings.given_as, declared.requests.Shown.Shown, declared.requests.View.View}}
+use Rattle.koth_views.specs.{Standing.hill_view, Matrix.matches_view, Placed.fell_text, Fallen.fallen_view, Roster.roster, declared.entrants.Entered.Entered}
+use Rattle.koth_commands.specs.{Answer.{AnswerParts, answer_parts}, Told.TellsWord, Streams.{From, Streams, Takes}, declared.status.Status.Status}
+use Rattle.{koth_files.specs.Trouble.IsOfHill, koth_keeping.specs.Answers.{Ends, Outcome}}
+use Rattle.koth_hills.specs.{Json.{AreMatches, IsDue, IsJsonText}, Placing.placing_view, ReplyStatus.reply_status, Settings.settings_text}
+
+-- for people, that the warrior of a source fell, and then its matches with all on the hill
+pub record TellsFallen (new : Kept) (source : List ℕ) (reply : Reply) (text : List ℕ) : Type 0 where
+  pub entry : ℕ
+  pub score : ℕ
+  pub fell : reply ≡ Reply.Fell entry score
+  pub judged : Verdict
+  pub due : IsDue new source judged
+  pub told : text ≡ fell_text entry score ++ fallen_view new judged.bouts
+
+-- for people, what became of the warrior of a source; if it fell with its matches, unless there was no memory to fight them again
+abbrev pub IsOutcome : List Entered → Kept → List ℕ → Reply → List ℕ → Type 0
+IsOutcome stood new source reply text = (text ≡ placing_view stood new reply) ⊎ TellsFallen new source reply text
+
+-- what stands after the line of a reply to a source that turned the old hill into the new one: for people what became of its warrior, as lines
+-- of JSON its matches, unless there was no memory for that
+abbrev pub IsPlacing : View → Kept → Kept → List ℕ → Reply → List ℕ → Type 0
+IsPlacing View.Plain old new source reply more = more ≡ []
+IsPlacing View.Table old new source reply more = (more ≡ []) ⊎ IsOutcome (roster old) new source reply more
+IsPlacing View.Json old new source reply more = (more ≡ []) ⊎ AreMatches new source reply more
+
+-- the text of an answer to a source: the line of its reply and this text after it, and of a refusal as JSON a line that has the reason too
+abbrev pub IsReplyText : View → Reply → List ℕ → List ℕ → Type 0
+IsReplyText View.Plain reply more text = text ≡ reply_line reply ++ more
+IsReplyText View.Table reply more text = text ≡ reply_line reply ++ more
+IsReplyText View.Json reply more text = IsJsonText reply more text
+
+-- the note of an answer to a source: some text that explains a refusal, and else nothing; beside lines of JSON nothing
+abbrev pub IsNote : View → Reply → List ℕ → Type 0
+IsNote View.Plain reply note = ((fault : AsmFault) → reply ≢ Reply.Refused fault) → note ≡ []
+IsNote View.Table reply note = ((fault : AsmFault) → reply ≢ Reply.Refused fault) → note ≡ []
+IsNote View.Json reply note = note ≡ []
+
+-- the answer to a source: its reply in this view and this text after it
+pub record AnswersReply (view : View) (reply : Reply) (more : List ℕ) (answer : AnswerParts) : Type 0 where
+  pub ends : answer.status ≡ reply_status reply
+  pub text : IsReplyText view reply more answer.text
+  pub note : IsNote view reply answer.note
+
+-- the answer to a submission that turned the old hill into the new one
+abbrev pub SaysSubmitted : View → Kept → Kept → List ℕ → Reply → AnswerParts → Type 0
+SaysSubmitted view old new source reply answer = (more : List ℕ) × IsPlacing view old new source reply more × AnswersReply view reply more answer
+
+-- the answer to the submission of a source to a store
+abbrev pub Submitted : {D : Type 0} → DeviceFacts D → Seen D → List ℕ → Seen D → View → AnswerParts → Type 0
+Submitted facts old source new view answer = (reply : Reply) × Submits facts old source reply new × SaysSubmitted view old.hill new.hill source reply answer
+
+-- the same of some hill that was just opened
+abbrev pub SaysReply : View → List ℕ → AnswerParts → Type 0
+SaysReply view source answer = (old : Kept) × (new : Kept) × (reply : Reply) × (reply ≢ Reply.Reopen) × SaysSubmitted view old new source reply answer
+
+-- what is answered to a source, by what its reader has left before and after: the answer to the source that was taken; or a fault, and then
+-- some of it may have been taken
+abbrev pub AnswersSource : (List ℕ → AnswerParts → Type 0) → Option (List ℕ) → Option (List ℕ) → Outcome → Type 0
+AnswersSource Says i j (Ok answer) = (source : List ℕ) × Takes i j source × Says source answer
+AnswersSource Says i j (Err trouble) = IsOfHill trouble × ((taken : List ℕ) × Consumes i j taken)
+
+-- how a command on a source ends, that is read from the input or from a file
+abbrev pub EndsSource : Bool → (List ℕ → AnswerParts → Type 0) → Status → Streams → Streams → Type 0
+EndsSource of_input Says status before after =
+    Ends (λ outcome. From of_input (λ i j. AnswersSource Says i j outcome) before.input after.input) status before after
+
+-- what is to be seen of a hill: its table, with the matrix of its matches or without, or its settings, with the seed or without
+pub record Sight : Type 0 where
+  pub matches : Bool
+  pub settings : Bool
+  pub with_seed : Bool
+
+abbrev pub sight_of : Shown → Sight
+sight_of shown = record { matches = shown.matches; settings = shown.settings; with_seed = shown.with_seed }
+
+-- the table of this hill, by the results that it keeps, and after it their matrix, if that is asked for: for programs
+abbrev pub shown_lines : Bool → Kept → List ℕ
+shown_lines matches hill = if matches then show_text (table_kept hill) ++ matches_text hill else show_text (table_kept hill)
+
+-- the same for people
+abbrev pub shown_table : Bool → Kept → List ℕ
+shown_table matches hill = if matches then hill_view hill ++ (codes "\n" ++ matches_view hill) else hill_view hill
+
+abbrev pub shown_text : View → Bool → Kept → List ℕ
+shown_text View.Plain matches hill = shown_lines matches hill
+shown_text View.Table matches hill = shown_table matches hill
+shown_text View.Json matches hill = hill_text (given_as hill.settings) matches hill
+
+-- the table, or the settings in its place
+abbrev pub sight_text : View → Sight → Kept → List ℕ
+sight_text view sight hill = if sight.settings then settings_text sight.with_seed hill.settings else shown_text view sight.matches hill
+
+-- the answer with that of some hill
+abbrev pub SaysShown : View → Sight → AnswerParts → Type 0
+SaysShown view sight answer = (hill : Kept) × (answer ≡ answer_parts Status.Done (sight_text view sight hill) [])
+
+-- what is written on standard error before the hill in a file is opened: nothing, or that one of its headers can't be read
+abbrev pub TellsNote : Option (List ℕ) → Option (List ℕ) → Type 0
+TellsNote old new = Keeps old new ⊎ TellsWord (codes "NOTE") old new
+
+-- such a note, and then how a command ends
+abbrev pub AfterNote : (Streams → Streams → Type 0) → Streams → Streams → Type 0
+AfterNote ends before after = (noted : Option (List ℕ)) × TellsNote before.errors noted × ends (record before { errors = noted }) after

@@ -1,0 +1,37 @@
+-- What `try` answers.
+use Rattle.std.specs.Prelude.{◌≡◌, ◌⊎◌, ℕ, if◌then◌else◌, List, []}
+use Rattle.{koth_hill.specs.{Kept.Kept, declared.verdict.Verdict.Verdict}, sector_disk.specs.Facts.DeviceFacts}
+use Rattle.hill_store.specs.{Earned.kept_reply, Seen.{Seen, Submits}, declared.reply.Reply.Reply}
+use Rattle.{koth_words.specs.declared.requests.View.View, koth_views.specs.Fallen.{challenged_view, fallen_view}}
+use Rattle.{koth_commands.specs.Answer.AnswerParts, koth_hills.specs.{Hills.AnswersReply, Json.{IsDue, judged_lines}}}
+
+-- for people, the matches of a challenger with all on the hill, and if it would fall the least points with which one stays
+abbrev pub trial_view : Kept → Verdict → List ℕ
+trial_view hill judged = if judged.stays then challenged_view hill judged.bouts else fallen_view hill judged.bouts
+
+-- what stands after the line of the reply: that for people, or its lines of JSON, unless there was no memory for it
+abbrev pub IsTrialText : View → Kept → Verdict → List ℕ → Type 0
+IsTrialText View.Plain hill judged more = more ≡ []
+IsTrialText View.Table hill judged more = (more ≡ []) ⊎ (more ≡ trial_view hill judged)
+IsTrialText View.Json hill judged more = (more ≡ []) ⊎ (more ≡ judged_lines hill judged)
+
+-- the reply that a submission of the source to this hill earns, and the text after it
+pub record IsForetold (view : View) (hill : Kept) (source : List ℕ) (reply : Reply) (more : List ℕ) : Type 0 where
+  pub judged : Verdict
+  pub due : IsDue hill source judged
+  pub earned : reply ≡ kept_reply hill source
+  pub told : IsTrialText view hill judged more
+
+-- what a source that is tried on a store is answered: that, or the reply of a submission that changes nothing
+abbrev pub IsTrial : {D : Type 0} → DeviceFacts D → Seen D → View → List ℕ → Reply → List ℕ → Type 0
+IsTrial facts store view source reply more =
+    IsForetold view store.hill source reply more ⊎ (Submits facts store source reply store × (more ≡ []))
+
+-- the answer to a source that is tried on a store
+abbrev pub Tried : {D : Type 0} → DeviceFacts D → Seen D → List ℕ → View → AnswerParts → Type 0
+Tried facts store source view answer = (reply : Reply) × (more : List ℕ) × IsTrial facts store view source reply more × AnswersReply view reply more answer
+
+-- the same of some hill
+abbrev pub SaysTrial : View → List ℕ → AnswerParts → Type 0
+SaysTrial view source answer = (hill : Kept) × (reply : Reply) × (more : List ℕ)
+    × (IsForetold view hill source reply more ⊎ (more ≡ [])) × AnswersReply view reply more answer

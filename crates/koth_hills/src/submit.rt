@@ -1,0 +1,287 @@
+//! The command `submit`: one submission to the hill in a file.
+
+ghost use Rattle.std.specs.Prelude.{◌≡◌, ◌+◌, ◌≤◌, ◌⊎◌, ◌++◌, [], false, None, IfOk, IfSome, OnErr, vec_capacity, vec_len};
+ghost use Rattle.{koth_views.specs.Roster.roster, koth_commands.specs.Streams.{From, is_input}};
+ghost use Rattle.koth_hills.specs.{Hills.{AnswersReply, AnswersSource, IsNote, IsOutcome, SaysReply, Submitted}, Json.{json_line, AreMatches, IsRefused}, ReplyStatus.reply_status};
+
+use crate::json::{json_line, matches_lines};
+use crate::outcome::outcome_text;
+use crate::reply_status::status_of;
+use hill_file::TryLock;
+use hill_store::{Reply, Store};
+use koth_commands::trouble::Trouble;
+use koth_commands::{
+    Answer, RefusedSource, Status, explanation_of, refused_text, source_name, source_text,
+};
+use koth_files::open_within;
+use koth_hill::Hill;
+use koth_session::line_of;
+use koth_views::{Entered, roster};
+use koth_words::{Source, View};
+use sector_disk::Device;
+use std::alloc::{AllocError, Allocator};
+use std::io::Read;
+use std::rt::{Clock, Files};
+use war_types::{AsmFault, Settings};
+
+/// Bytes of the line of a reply at most.
+pub(crate) const REPLY_LINE: usize = 96;
+
+/// Submits a source to the hill in a file, and answers with the reply. The hill is opened before the source is read. If
+/// another program has its lock, that is tried again for as long as the arguments say. The reply to a warrior that is
+/// placed or falls comes once that is durable. The note of a refusal is the place in the source and the reason.
+pub fn perform_submit<'s, R: Files + Clock, A: Allocator + Copy, I: Read>(
+    rt: &'s R,
+    alloc: A,
+    hill: &'s str,
+    wait: u32,
+    source: Source<'s>,
+    view: View,
+    input: &mut I,
+) -> Result<Answer<A>, Trouble<'s>>
+where
+    R::File: TryLock,
+    ensures { From (is_input source.entry) (λ i j. AnswersSource (SaysReply view) i j result) (I.remaining input.old) (I.remaining input.new) }
+{
+    match open_within(rt, alloc, hill, wait) {
+        Ok(mut store) => submit_read(rt, alloc, &mut store, source, view, input),
+        Err(trouble) => Err(trouble),
+    }
+}
+
+/// Reads a source, and submits it to a store that was just opened.
+fn submit_read<'s, R: Files, D: Device, A: Allocator + Copy, I: Read>(
+    rt: &R,
+    alloc: A,
+    store: &mut Store<D, A>,
+    source: Source<'s>,
+    view: View,
+    input: &mut I,
+) -> Result<Answer<A>, Trouble<'s>>
+    requires { store.old.reopen ≡ false }
+    ensures { From (is_input source.entry) (λ i j. AnswersSource (SaysReply view) i j result) (I.remaining input.old) (I.remaining input.new) }
+{
+    match source_text(rt, alloc, source, input) {
+        Ok(text) => {
+            let source = SourceText {
+                name: source_name(source),
+                text: text.as_slice(),
+            };
+            Ok(submit_source(alloc, store, source, view)?)
+        }
+        Err(trouble) => Err(trouble),
+    }
+}
+
+/// The text of a source, and what messages call it.
+#[derive(Clone, Copy)]
+pub(crate) struct SourceText<'s> {
+    pub name: &'s str,
+    pub text: &'s [u8],
+}
+
+/// Submits a source to a store. The answer is the reply's line; in the view for people what became of the warrior follows,
+/// and as lines of JSON its matches. If there is no memory for the line, nothing is submitted. A refusal as JSON is a longer
+/// line, for which there may be no memory after that.
+fn submit_source<D: Device, A: Allocator + Copy>(
+    alloc: A,
+    store: &mut Store<D, A>,
+    source: SourceText<'_>,
+    view: View,
+) -> Result<Answer<A>, AllocError>
+    ensures submitted { IfOk result (Submitted D.facts store.old source.entry.text.now store.new view) }
+    ensures memory { OnErr result (store.new ≡ store.old) }
+{
+    let room = Vec::with_capacity(alloc, REPLY_LINE)?;
+    let before = roster_for(alloc, view, store.hill());
+    let reply = store.submit(source.text);
+    let placing = placing_text(alloc, view, &before, store, source.text, &reply);
+    let settings = store.hill().settings();
+    let more = placing.as_slice();
+    reply_answer(alloc, room, settings, source, view, &reply, more)
+}
+
+/// The answer to a source: the line of the reply, in this room, and this text after it if there is memory for that. The
+/// note of a refusal is the place in the source and the reason, which its line of JSON has in place of a note; that alone
+/// needs memory.
+pub(crate) fn reply_answer<A: Allocator + Copy>(
+    alloc: A,
+    room: Vec<u8, A>,
+    settings: &Settings,
+    source: SourceText<'_>,
+    view: View,
+    reply: &Reply,
+    more: &[u8],
+) -> Result<Answer<A>, AllocError>
+    requires empty { room.items ≡ [] }
+    requires fits { vec_len room + 96 ≤ vec_capacity room }
+    ensures answers { IfOk result (λ answer. AnswersReply view reply.now more.now answer ⊎ AnswersReply view reply.now [] answer) }
+    ensures memory { OnErr result (IsRefused reply.now) }
+{
+    match view {
+        View::Plain => Ok(told_answer(alloc, room, settings, source, reply, more)),
+        View::Table => Ok(told_answer(alloc, room, settings, source, reply, more)),
+        View::Json => json_answer(alloc, room, settings, source, reply, more),
+    }
+}
+
+/// The same in the line for programs, with a note of a refusal if there is memory for that.
+fn told_answer<A: Allocator + Copy>(
+    alloc: A,
+    mut room: Vec<u8, A>,
+    settings: &Settings,
+    source: SourceText<'_>,
+    reply: &Reply,
+    more: &[u8],
+) -> Answer<A>
+    requires empty { room.items ≡ [] }
+    requires fits { vec_len room + 96 ≤ vec_capacity room }
+    ensures { AnswersReply View.Plain reply.now more.now result ⊎ AnswersReply View.Plain reply.now [] result }
+{
+    line_of(reply).append_to(&mut room);
+    let _ = room.extend_from_slice(more);
+    Answer {
+        status: status_of(reply),
+        text: room,
+        note: note_of(alloc, settings, source, reply),
+    }
+}
+
+/// The same as lines of JSON.
+fn json_answer<A: Allocator + Copy>(
+    alloc: A,
+    room: Vec<u8, A>,
+    settings: &Settings,
+    source: SourceText<'_>,
+    reply: &Reply,
+    more: &[u8],
+) -> Result<Answer<A>, AllocError>
+    requires empty { room.items ≡ [] }
+    requires fits { vec_len room + 96 ≤ vec_capacity room }
+    ensures answers { IfOk result (λ answer. AnswersReply View.Json reply.now more.now answer ⊎ AnswersReply View.Json reply.now [] answer) }
+    ensures memory { OnErr result (IsRefused reply.now) }
+{
+    match *reply {
+        Reply::Refused(fault) => refused_answer(alloc, settings, source, fault),
+        _ => Ok(line_answer(alloc, room, reply, more)),
+    }
+}
+
+/// The line of JSON of a reply, in this room, and this text after it if there is memory for that.
+fn line_answer<A: Allocator>(
+    alloc: A,
+    mut room: Vec<u8, A>,
+    reply: &Reply,
+    more: &[u8],
+) -> Answer<A>
+    requires empty { room.items ≡ [] }
+    requires fits { vec_len room + 96 ≤ vec_capacity room }
+    ensures ends { result.status ≡ reply_status reply.now }
+    ensures text { result.text ≡ json_line reply.now ++ more.now ⊎ result.text ≡ json_line reply.now ++ [] }
+    ensures note { result.note ≡ [] }
+{
+    json_line(reply).append_to(&mut room);
+    let _ = room.extend_from_slice(more);
+    Answer {
+        status: status_of(reply),
+        text: room,
+        note: Vec::new(alloc),
+    }
+}
+
+/// The line of JSON of a refusal.
+fn refused_answer<A: Allocator + Copy>(
+    alloc: A,
+    settings: &Settings,
+    source: SourceText<'_>,
+    fault: AsmFault,
+) -> Result<Answer<A>, AllocError>
+    ensures { IfOk result (AnswersReply View.Json (Reply.Refused fault) []) }
+{
+    let refused = RefusedSource {
+        path: source.name,
+        text: source.text,
+        fault,
+    };
+    Ok(Answer {
+        status: Status::Refused,
+        text: refused_text(alloc, settings, refused)?,
+        note: Vec::new(alloc),
+    })
+}
+
+/// The place in a source and the reason, if it is refused and there is memory for that.
+fn note_of<A: Allocator + Copy>(
+    alloc: A,
+    settings: &Settings,
+    source: SourceText<'_>,
+    reply: &Reply,
+) -> Vec<u8, A>
+    ensures { IsNote View.Plain reply.now result.items }
+{
+    match *reply {
+        Reply::Refused(_) => explanation_of(alloc, source.name, source.text, settings),
+        _ => Vec::new(alloc),
+    }
+}
+
+/// Who stands on the hill before a submission, if people are to read what becomes of it and there is memory for that.
+fn roster_for<A: Allocator + Copy>(alloc: A, view: View, hill: &Hill<A>) -> Option<Vec<Entered, A>>
+    ensures plain { view ≡ View.Plain → result ≡ None }
+    ensures roster { IfSome result (λ stood. stood.items ≡ roster hill.now) }
+{
+    match view {
+        View::Plain | View::Json => None,
+        View::Table => roster(alloc, hill).ok(),
+    }
+}
+
+/// What stands after the line of a reply: for people what became of the warrior of a source, and as lines of JSON its
+/// matches, if there is memory for that; else nothing.
+fn placing_text<D: Device, A: Allocator + Copy>(
+    alloc: A,
+    view: View,
+    before: &Option<Vec<Entered, A>>,
+    store: &mut Store<D, A>,
+    source: &[u8],
+    reply: &Reply,
+) -> Vec<u8, A>
+    ensures plain { view ≡ View.Plain → result.items ≡ [] }
+    ensures none { view ≡ View.Table → before.now ≡ None → result.items ≡ [] }
+    ensures some { view ≡ View.Table → IfSome before.now (λ stood. (result.items ≡ [])
+        ⊎ IsOutcome stood.items store.old.hill source.now reply.now result.items) }
+    ensures json { view ≡ View.Json → (result.items ≡ []) ⊎ AreMatches store.old.hill source.now reply.now result.items }
+    ensures unchanged { store.new ≡ store.old }
+{
+    match view {
+        View::Plain => Vec::new(alloc),
+        View::Table => told_text(alloc, before, store, source, reply),
+        View::Json => match matches_lines(alloc, store, source, reply) {
+            Ok(text) => text,
+            Err(AllocError) => Vec::new(alloc),
+        },
+    }
+}
+
+/// What became of the warrior of a source, if it is known who stood on the hill before and there is memory for it; else
+/// nothing.
+fn told_text<D: Device, A: Allocator + Copy>(
+    alloc: A,
+    before: &Option<Vec<Entered, A>>,
+    store: &mut Store<D, A>,
+    source: &[u8],
+    reply: &Reply,
+) -> Vec<u8, A>
+    ensures none { before.now ≡ None → result.items ≡ [] }
+    ensures some { IfSome before.now (λ stood. (result.items ≡ [])
+        ⊎ IsOutcome stood.items store.old.hill source.now reply.now result.items) }
+    ensures unchanged { store.new ≡ store.old }
+{
+    match before {
+        Some(before) => match outcome_text(alloc, before.as_slice(), store, source, reply) {
+            Ok(text) => text,
+            Err(AllocError) => Vec::new(alloc),
+        },
+        None => Vec::new(alloc),
+    }
+}

@@ -1,0 +1,124 @@
+//! The command `try`: what a submission would be answered.
+
+ghost use Rattle.std.specs.Prelude.{◌≡◌, IfOk};
+ghost use Rattle.{koth_commands.specs.Streams.{From, is_input}, koth_hills.specs.{Hills.AnswersSource, Trials.{IsTrialText, SaysTrial, Tried, trial_view}}};
+
+use crate::json::judged_lines;
+use crate::submit::{REPLY_LINE, SourceText, reply_answer};
+use hill_store::{Reply, Store};
+use koth_commands::trouble::Trouble;
+use koth_commands::{Answer, source_name, source_text};
+use koth_files::look_hill;
+use koth_hill::{Hill, Verdict};
+use koth_views::{challenged_view, fallen_view};
+use koth_words::{Source, View};
+use sector_disk::Device;
+use std::alloc::{AllocError, Allocator};
+use std::io::Read;
+use std::rt::Files;
+
+/// Answers what a submission of a source to the hill in a file would be answered, and for people, or as lines of JSON, its
+/// matches with all on the hill. Nothing is submitted: the hill is looked at before the source is read, its file is only read, and its lock
+/// is not taken.
+pub fn perform_try<'s, R: Files, A: Allocator + Copy, I: Read>(
+    rt: &R,
+    alloc: A,
+    hill: &'s str,
+    source: Source<'s>,
+    view: View,
+    input: &mut I,
+) -> Result<Answer<A>, Trouble<'s>>
+    ensures { From (is_input source.entry) (λ i j. AnswersSource (SaysTrial view) i j result) (I.remaining input.old) (I.remaining input.new) }
+{
+    match look_hill(rt, alloc, hill) {
+        Ok(mut store) => try_read(rt, alloc, &mut store, source, view, input),
+        Err(trouble) => Err(trouble),
+    }
+}
+
+/// Reads a source, and tries it on the hill of a store.
+fn try_read<'s, R: Files, D: Device, A: Allocator + Copy, I: Read>(
+    rt: &R,
+    alloc: A,
+    store: &mut Store<D, A>,
+    source: Source<'s>,
+    view: View,
+    input: &mut I,
+) -> Result<Answer<A>, Trouble<'s>>
+    ensures { From (is_input source.entry) (λ i j. AnswersSource (SaysTrial view) i j result) (I.remaining input.old) (I.remaining input.new) }
+{
+    match source_text(rt, alloc, source, input) {
+        Ok(text) => {
+            let source = SourceText {
+                name: source_name(source),
+                text: text.as_slice(),
+            };
+            Ok(try_source(alloc, store, source, view)?)
+        }
+        Err(trouble) => Err(trouble),
+    }
+}
+
+/// The same of a source.
+fn try_source<D: Device, A: Allocator + Copy>(
+    alloc: A,
+    store: &mut Store<D, A>,
+    source: SourceText<'_>,
+    view: View,
+) -> Result<Answer<A>, AllocError>
+    ensures tried { IfOk result (Tried D.facts store.old source.entry.text.now view) }
+    ensures unchanged { store.new ≡ store.old }
+{
+    let room = Vec::with_capacity(alloc, REPLY_LINE)?;
+    match store.try_source(source.text, None) {
+        Some(Ok(judged)) => {
+            let reply = Reply::judged(&judged);
+            let more = trial_text(alloc, store.hill(), view, &judged);
+            let settings = store.hill().settings();
+            let more = more.as_slice();
+            reply_answer(alloc, room, settings, source, view, &reply, more)
+        }
+        Some(Err(reply)) => {
+            let settings = store.hill().settings();
+            reply_answer(alloc, room, settings, source, view, &reply, b"")
+        }
+        None => unreachable!(),
+    }
+}
+
+/// What stands after the line of the reply.
+fn trial_text<A: Allocator + Copy>(
+    alloc: A,
+    hill: &Hill<A>,
+    view: View,
+    judged: &Verdict,
+) -> Vec<u8, A>
+    ensures { IsTrialText view hill.now judged.now result.items }
+{
+    match view {
+        View::Plain => Vec::new(alloc),
+        View::Table => match trial_view(alloc, hill, judged) {
+            Ok(text) => text,
+            Err(AllocError) => Vec::new(alloc),
+        },
+        View::Json => match judged_lines(alloc, hill, judged) {
+            Ok(text) => text,
+            Err(AllocError) => Vec::new(alloc),
+        },
+    }
+}
+
+/// The matches of a challenger with all on the hill, and if it would fall the least points with which one stays.
+fn trial_view<A: Allocator + Copy>(
+    alloc: A,
+    hill: &Hill<A>,
+    judged: &Verdict,
+) -> Result<Vec<u8, A>, AllocError>
+    ensures { IfOk result (λ text. text.items ≡ trial_view hill.now judged.now) }
+{
+    if judged.stays {
+        challenged_view(alloc, hill, judged.bouts())
+    } else {
+        fallen_view(alloc, hill, judged.bouts())
+    }
+}

@@ -1,5 +1,0 @@
-use Rattle.koth_server.proofs.Statuses.{refused-status}
-use Rattle.koth_server.proofs.reply_status.status_of.Goals as goal
-
-pub returns-in-Refused-clause-status : goal.returns-in-Refused-clause-status
-returns-in-Refused-clause-status g = refused-status g.args.reply.now g.in-Refused.is

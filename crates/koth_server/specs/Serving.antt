@@ -1,0 +1,35 @@
+-- What `serve` writes, and how it ends.
+use Rattle.std.specs.Prelude.{◌≡◌, ◌⊎◌, ℕ, List, Option, ◌++◌, Result, codes, decimal}
+use Rattle.{std.specs.Io.KnownBytes.Appends, war_types.specs.declared.settings.{RawSettings.RawSettings, SettingsFault.SettingsFault}}
+use Rattle.{koth_protocol.specs.Written.WritesPart, koth_files.specs.Trouble.IsOfHill}
+use Rattle.koth_commands.specs.{Answer.EndsGiven, Told.WritesSome, Trouble.Tells, Streams.Streams}
+use Rattle.koth_commands.specs.declared.{status.Status.Status, trouble.Trouble.Trouble}
+
+-- the line that names the port
+abbrev pub listening_line : ℕ → List ℕ
+listening_line port = codes "LISTENING " ++ decimal port ++ codes "\n"
+
+-- the line of a port was written, or a part of one
+abbrev pub Announces : Option (List ℕ) → Option (List ℕ) → Type 0
+Announces old new = (port : ℕ) × Appends old new (listening_line port)
+
+abbrev pub AnnouncesPart : Option (List ℕ) → Option (List ℕ) → Type 0
+AnnouncesPart old new = (port : ℕ) × WritesPart old new (listening_line port)
+
+-- how a service ends: after its line, or with a fault, and then a part of that line may stand on the output; the log stands on standard error
+pub record TellsServeFault (status : Status) (before after : Streams) : Type 0 where
+  pub trouble : Trouble
+  pub of_hill : IsOfHill trouble
+  pub port : ℕ
+  pub output : WritesPart before.output after.output (listening_line port)
+  pub logged : Option (List ℕ)
+  pub log : WritesSome before.errors logged
+  pub told : Tells trouble status logged after.errors
+
+abbrev pub EndsService : Status → Streams → Streams → Type 0
+EndsService status before after =
+    ((status ≡ Status.Done) × Announces before.output after.output × WritesSome before.errors after.errors) ⊎ TellsServeFault status before after
+
+-- how `serve` ends: as a service under the settings that are given for a hill that it creates, with their refusal, or out of memory
+abbrev pub EndsServe : Result RawSettings SettingsFault → Status → Streams → Streams → Type 0
+EndsServe settings status before after = EndsGiven (λ s. EndsService) settings status before after
