@@ -5,3 +5,4 @@ mod Rows
 mod Shown
 mod Sources
 mod Tried
+mod Widths

@@ -1,6 +1,8 @@
 -- The table of a hill, with the matrix of its matches or without.
-use Rattle.{std.proofs.Common.{◌≡◌, ◌∙◌, ℕ, Bool, true, false, true≢false, List, ◌++◌, ap, append_assoc, codes, sym}, koth_hill.specs.Kept.{Kept, table_kept}}
-use Rattle.{koth_protocol.specs.{Matches.matches_text, Table.show_text}, koth_views.specs.{Matrix.matches_view, Standing.hill_view}, koth_hills.specs.Hills.{shown_lines, shown_table}}
+use Rattle.std.proofs.Common.{◌≡◌, ◌∙◌, ℕ, ◌<◌, ◌≤◌, Bool, true, false, true≢false, nat_lt, List, ◌++◌, ap, append_assoc, codes, subst, sym}
+use Rattle.{std.proofs.lemmas.Bool.{cond-false, cond-true, le-ltb, lt-ltb}, koth_hill.specs.Kept.{Kept, table_kept}}
+use Rattle.{koth_protocol.specs.{Matches.matches_text, Table.show_text}, koth_views.specs.{Matrix.matches_view, Standing.hill_view}}
+use Rattle.koth_hills.specs.{Hills.{shown_lines, shown_matrix, shown_table}, Width.{longest_line, terminal_width}}
 
 pub shown_with : (matches : Bool) (hill : Kept) (shown matrix items : List ℕ) → matches ≡ true → shown ≡ show_text (table_kept hill)
     → matrix ≡ matches_text hill → items ≡ shown ++ matrix → items ≡ shown_lines matches hill
@@ -12,8 +14,26 @@ shown_alone true hill items asked is = absurd (true≢false asked)
 shown_alone false hill items asked is = is
 
 -- the table for people, an empty line and the matrix
-pub table_of_parts : (hill : Kept) (table more matrix items : List ℕ) → table ≡ hill_view hill → more ≡ table ++ codes "\n" → matrix ≡ matches_view hill
+pub table_of_parts : (hill : Kept) (table more matrix items : List ℕ) → table ≡ hill_view hill → more ≡ table ++ codes "\n" → matrix ≡ shown_matrix hill
     → items ≡ more ++ matrix → items ≡ shown_table true hill
 table_of_parts hill table more matrix items table_is more_is matrix_is is =
     is ∙ ap (λ t. t ++ matrix) (more_is ∙ ap (λ t. t ++ codes "\n") table_is) ∙ append_assoc (hill_view hill) (codes "\n") matrix
     ∙ ap (λ t. hill_view hill ++ (codes "\n" ++ t)) matrix_is
+
+-- the matrix for people, by the width of its columns
+module _ (hill : Kept) (width : ℕ) (columns : List ℕ) (columns_are : columns ≡ matches_view hill) (width_is : width ≡ longest_line columns) where
+  wide : Bool
+  wide = nat_lt terminal_width (longest_line (matches_view hill))
+
+  same_width : width ≡ longest_line (matches_view hill)
+  same_width = width_is ∙ ap longest_line columns_are
+
+  pub without_room : terminal_width < width → shown_matrix hill ≡ matches_text hill
+  without_room wider =
+      cond-true wide (matches_text hill) (matches_view hill)
+      (lt-ltb terminal_width (longest_line (matches_view hill)) (subst (λ n. terminal_width < n) same_width wider))
+
+  pub with_room : width ≤ terminal_width → columns ≡ shown_matrix hill
+  with_room narrow =
+      columns_are ∙ sym (cond-false wide (matches_text hill) (matches_view hill)
+      (le-ltb terminal_width (longest_line (matches_view hill)) (subst (λ n. n ≤ terminal_width) same_width narrow)))

@@ -1,12 +1,12 @@
 -- What the commands on a hill in a file answer, and how they end.
-use Rattle.std.specs.{Prelude.{◌≡◌, ◌≢◌, ◌⊎◌, ℕ, Bool, if◌then◌else◌, List, [], Option, ◌++◌, Ok, Err, codes}, Io.KnownBytes.{Consumes, Keeps}}
+use Rattle.std.specs.{Prelude.{◌≡◌, ◌≢◌, ◌⊎◌, ℕ, nat_lt, Bool, if◌then◌else◌, List, [], Option, ◌++◌, Ok, Err, codes}, Io.KnownBytes.{Consumes, Keeps}}
 use Rattle.{war_types.specs.declared.fault.AsmFault.AsmFault, koth_hill.specs.{Kept.{Kept, table_kept}, declared.verdict.Verdict.Verdict}, sector_disk.specs.Facts.DeviceFacts}
 use Rattle.{hill_store.specs.{Seen.{Seen, Submits}, declared.reply.Reply.Reply}, koth_protocol.specs.{Matches.matches_text, Table.show_text}, koth_session.specs.Reply.reply_line}
 use Rattle.{koth_json.specs.Hill.hill_text, koth_words.specs.{Settings.given_as, declared.requests.Shown.Shown, declared.requests.View.View}}
 use Rattle.koth_views.specs.{Standing.hill_view, Matrix.matches_view, Placed.fell_text, Fallen.fallen_view, Roster.roster, declared.entrants.Entered.Entered}
 use Rattle.koth_commands.specs.{Answer.{AnswerParts, answer_parts}, Told.TellsWord, Streams.{From, Streams, Takes}, declared.status.Status.Status}
 use Rattle.{koth_files.specs.Trouble.IsOfHill, koth_keeping.specs.Answers.{Ends, Outcome}}
-use Rattle.koth_hills.specs.{Json.{AreMatches, IsDue, IsJsonText}, Placing.placing_view, ReplyStatus.reply_status, Settings.settings_text}
+use Rattle.koth_hills.specs.{Json.{AreMatches, IsDue, IsJsonText}, Placing.placing_view, ReplyStatus.reply_status, Settings.settings_text, Width.{longest_line, terminal_width}}
 
 -- for people, that the warrior of a source fell, and then its matches with all on the hill
 pub record TellsFallen (new : Kept) (source : List ℕ) (reply : Reply) (text : List ℕ) : Type 0 where
@@ -82,9 +82,14 @@ sight_of shown = record { matches = shown.matches; settings = shown.settings; wi
 abbrev pub shown_lines : Bool → Kept → List ℕ
 shown_lines matches hill = if matches then show_text (table_kept hill) ++ matches_text hill else show_text (table_kept hill)
 
--- the same for people
+-- the matrix for people: in columns, or as programs get it if a terminal has no room for these
+abbrev pub shown_matrix : Kept → List ℕ
+shown_matrix hill =
+    if nat_lt terminal_width (longest_line (matches_view hill)) then matches_text hill else matches_view hill
+
+-- the table for people, and after it the matrix, if that is asked for
 abbrev pub shown_table : Bool → Kept → List ℕ
-shown_table matches hill = if matches then hill_view hill ++ (codes "\n" ++ matches_view hill) else hill_view hill
+shown_table matches hill = if matches then hill_view hill ++ (codes "\n" ++ shown_matrix hill) else hill_view hill
 
 abbrev pub shown_text : View → Bool → Kept → List ℕ
 shown_text View.Plain matches hill = shown_lines matches hill

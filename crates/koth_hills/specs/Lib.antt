@@ -6,6 +6,8 @@ pub mod Placing
 pub mod Json
 -- The settings of a hill, as options.
 pub mod Settings
+-- How wide a text is.
+pub mod Width
 -- What each command on a hill writes and how it ends.
 pub mod Hills
 -- What `try` writes, and how it ends.

@@ -6,7 +6,7 @@
 //! - `damage`: what is told of a header that can't be read, before the hill is opened;
 //! - `submit`, `trial`, `show`, `page`: a command each;
 //! - `outcome` and `json`: what became of a warrior, for people and as lines of JSON;
-//! - `settings`: the settings of a hill, as options that can be pasted;
+//! - `settings`: the settings of a hill, as options that can be pasted, and `width`: how wide a text is;
 //! - `reply_status`: how the program ends with a reply.
 //!
 //! The main clauses: `submit` answers with the line of the reply that this very submission had (`Submitted`), `try` with
@@ -25,6 +25,7 @@ mod settings;
 mod show;
 mod submit;
 mod trial;
+mod width;
 
 pub use damage::tell_lost_header;
 pub use page::perform_page;

@@ -1,13 +1,15 @@
 //! The command `show`: the table of the hill in a file, and the matrix of its matches.
 
 ghost use Rattle.std.specs.Prelude.{◌≡◌, IfOk, true};
-ghost use Rattle.{koth_keeping.specs.Answers.Answers, koth_hills.specs.Hills.{SaysShown, shown_lines, shown_table, shown_text, sight_of, sight_text}};
+ghost use Rattle.{koth_keeping.specs.Answers.Answers, koth_hills.specs.Hills.{SaysShown, shown_lines, shown_matrix, shown_table, shown_text, sight_of, sight_text}};
 
 use crate::settings::settings_text;
+use crate::width::{TERMINAL_WIDTH, longest_line};
 use hill_store::Store;
 use koth_commands::trouble::Trouble;
 use koth_commands::{Answer, Status};
 use koth_files::look_hill;
+use koth_hill::Hill;
 use koth_json::hill_text;
 use koth_protocol::matches_text;
 use koth_session::table_of;
@@ -113,8 +115,19 @@ fn table_with_matches<D: Device, A: Allocator + Copy>(
     ensures { IfOk result (λ text. text.items ≡ shown_table true store.now.hill) }
 {
     let mut text = hill_view(alloc, store.hill())?;
-    let matrix = matches_view(alloc, store.hill())?;
+    let matrix = shown_matrix(alloc, store.hill())?;
     text.extend_from_slice(b"\n")?;
     text.extend_from_slice(matrix.as_slice())?;
     Ok(text)
+}
+
+/// The matrix for people: in columns, or as programs get it if a terminal has no room for these.
+fn shown_matrix<A: Allocator + Copy>(alloc: A, hill: &Hill<A>) -> Result<Vec<u8, A>, AllocError>
+    ensures { IfOk result (λ text. text.items ≡ shown_matrix hill.now) }
+{
+    let columns = matches_view(alloc, hill)?;
+    if longest_line(columns.as_slice()) > TERMINAL_WIDTH {
+        return matches_text(alloc, hill);
+    }
+    Ok(columns)
 }

@@ -14,6 +14,7 @@
 //! - `seeds`: the seed that is drawn, and what is told of the default one;
 //! - `logs`: the log of a service whose output takes no line for a while;
 //! - `audits`: the results that a hill keeps, shown, audited, and changed in its file;
+//! - `matrices`: the matrix of a hill in columns, and one that has no room for these;
 //! - `pages`: the page of a hill;
 //! - `migrations`: a hill of the old format, which `tests_fixtures` has, and how it is moved to the new one;
 //! - `command_growths`: commands with each growth of memory refused in turn;
@@ -46,6 +47,8 @@ mod hills;
 mod inputs;
 #[cfg(test)]
 mod logs;
+#[cfg(test)]
+mod matrices;
 #[cfg(test)]
 mod migrations;
 #[cfg(test)]
