@@ -1,14 +1,14 @@
 -- How a command of a match ends whose answer was delivered.
-use Rattle.std.proofs.Common.{◌≡◌, inl, inr, ℕ, List, Option, Result, Ok, Err, MatchResult, sym, ap, subst, ◌∙◌}
+use Rattle.std.proofs.Common.{◌≡◌, inl, inr, ℕ, List, [], Option, Result, Ok, Err, MatchResult, refl, sym, ap, subst, ◌∙◌}
 use Rattle.{std.specs.Io.KnownBytes.{Appends, Keeps}, war_types.specs.{declared.fault.AsmFault.AsmFault, declared.settings.RawSettings.RawSettings}}
 use Rattle.{koth_text.specs.Written.WritesPart, koth_words.specs.declared.requests.View.View}
 use Rattle.{redcode_asm.specs.Assembly.assembly, koth_commands.specs.Pair.IsFaultOf}
-use Rattle.koth_commands.specs.{Answer.{AnswerParts, Delivers, IsRefusal}, Told.{TellsWord}, Trouble.{IsReadFault, Tells, fault_status, fault_word, no_memory}}
+use Rattle.koth_commands.specs.{Answer.{AnswerParts, Delivers, IsRefusal, answer_parts}, Told.{TellsWord}, Trouble.{IsReadFault, Tells, fault_status, fault_word, no_memory}}
 use Rattle.koth_commands.specs.declared.{status.Status.Status, trouble.{Fault.Fault, Trouble.Trouble}}
 use Rattle.koth_contests.specs.Pair.{AnswersAs, EndsMatch, IsAnswer}
 use Rattle.koth_contests.proofs.Written.{nothing_written, stays}
 
--- a source that is refused
+-- the answer of a source that is refused
 refused_as : (s : RawSettings) (view : View) (fault : AsmFault) (a : AnswerParts) → IsFaultOf s fault → IsRefusal view fault a → IsAnswer s view (λ t. ⊥) ⊥ a
 refused_as s view fault a comes is =
     subst (λ t. AnswersAs s view (λ x. ⊥) ⊥ t a.text a.note) {x = Status.Refused} (sym is.refused) (inl (fault, comes, is.text))
@@ -19,7 +19,7 @@ refused_answers s view source fault (Ok a) comes is = refused_as s view fault a 
 refused_answers s view source fault (Err trouble) comes is = inr is
 
 module _ (s : RawSettings) (view : View) (IsTold : List ℕ → Type 0) (IsNothing : Type 0) where
-  -- no answer of a match is none of another one
+  -- if there is no match, the answer is the same whatever would be told of one
   none_as : (status : Status) (text note : List ℕ) → AnswersAs s view (λ t. ⊥) ⊥ status text note → AnswersAs s view IsTold IsNothing status text note
   none_as Status.Done text note answers = absurd answers.0
   none_as Status.Refused text note (inl refused) = inl refused
@@ -31,6 +31,10 @@ module _ (s : RawSettings) (view : View) (IsTold : List ℕ → Type 0) (IsNothi
   pub answers_none : (r : Result AnswerParts Trouble) → MatchResult r (IsAnswer s view (λ t. ⊥) ⊥) IsReadFault → MatchResult r (IsAnswer s view IsTold IsNothing) IsReadFault
   answers_none (Ok a) is = none_as a.status a.text a.note is
   answers_none (Err trouble) is = is
+
+  -- the answer is done, with a text that is told
+  pub done_answers : (text : List ℕ) (a : AnswerParts) → a ≡ answer_parts Status.Done text [] → IsTold text → IsAnswer s view IsTold IsNothing a
+  done_answers text a is told = subst (IsAnswer s view IsTold IsNothing) (sym is) (told, refl)
 
   module _ (o p e f : Option (List ℕ)) where
     whole_ends : (status : Status) (text note : List ℕ) → AnswersAs s view IsTold IsNothing status text note → Appends o p text → WritesPart e f note

@@ -1,4 +1,4 @@
--- A round that was begun and played is that of the match, and the text has all of them.
+-- A round that was begun and played is a round of the match, and the text has all rounds.
 use Rattle.std.{proofs.{Common.{◌≡◌, ◌∙◌, ℕ, ◌+◌, ◌-◌, ◌*◌, List, [], ◌∷◌, ◌++◌, map, refl, sym, ap, subst, arith, append-nil}, lemmas.List.FromFn.map-range_with_len_more}, specs.List.{flat_map, range_with_len}}
 use Rattle.{std.proofs.lemmas.List.Concat.flat_map-append, war_types.specs.{Warrior.WarriorParts, declared.settings.RawSettings.RawSettings}}
 use Rattle.mars_core.specs.{declared.round.{Outcome.Outcome, Side.Side}, Round.{Round, after_turns, opening, outcome}}

@@ -5,7 +5,7 @@ use Rattle.koth_commands.specs.{Pair.IsWarriorOf, Trouble.{Tells, no_memory}, de
 use Rattle.{koth_words.specs.declared.requests.{Source.Source, View.View}, koth_match.specs.declared.bout.Bout.Bout, koth_commands.specs.Streams.source_name}
 use Rattle.koth_contests.specs.{Fight.{EndsMany, bout_text}, Lines.entrant, Met.EndsMeetings, Opponents.{AreFiles, names_of}, declared.{meeting.Terms.Terms, opponents.Opponent.Opponent}}
 
--- the counts of the match of two warriors, whose sources are called so
+-- the text of the counts of a match has nothing but these values
 pub bout_told : (view : View) (older younger : WarriorParts) (first second one two : List ℕ) (bout is : Bout) → first ≡ one → second ≡ two → bout ≡ is
     → bout_text view (entrant first older) (entrant second younger) bout ≡ bout_text view (entrant one older) (entrant two younger) is
 bout_told view older younger first second one two bout is at_first at_second same =

@@ -3,7 +3,7 @@ use Rattle.std.proofs.Common.{◌≡◌, inl, inr, ℕ, ◌+◌, ◌<◌, List, 
 use Rattle.{std.specs.List.flat_map, std.proofs.lemmas.{List.{map_push, take_more}, List.Concat.flat_map-append, List.Elements.{All-nil, All-push}}}
 use Rattle.{koth_words.specs.declared.requests.Source.Source, koth_commands.specs.Streams.source_name, koth_contests.specs.Opponents.{AreFiles, IsIn, IsPart, Part, PutsFiles, PutsIn}}
 
--- those in a folder so far
+-- names in a folder were put behind the old ones
 abbrev pub InFolder : List ℕ → List (List ℕ) → List (List ℕ) → Type 0
 InFolder folder old new = (files : List (List ℕ)) × All (IsIn folder) files × (new ≡ old ++ files)
 
@@ -23,7 +23,7 @@ all_in folder old new (files, are, so_far) = (files, inr are, so_far)
 pub only : (word : List ℕ) (old new : List (List ℕ)) → new ≡ old ++ word ∷ [] → PutsFiles word old new
 only word old new is = (word ∷ [], inl refl, is)
 
--- ---- those of the words so far
+-- ---- the names that the first words stand for
 
 pub no_words : (words : List Source) → AreFiles (take 0 words) []
 no_words words = record { parts = []; given = refl; stand = All-nil IsPart; all = refl }

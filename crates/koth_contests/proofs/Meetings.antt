@@ -9,7 +9,7 @@ use Rattle.koth_contests.specs.{Contest.{added, contest_tally, no_rounds, tally}
 use Rattle.koth_contests.specs.Met.{EndsLine, EndsMeetings, IsBegun, IsContest, IsMet, Meets, Met, Notes}
 use Rattle.koth_contests.specs.Met.{all_fought, contest_text, count_of, is_fought, met, met_count, met_line, met_lines, met_sum, tally_against}
 
--- how it ends so far
+-- how it ends if no opponent comes after those that were met
 abbrev pub status_of : Bool → Status
 status_of true = Status.Done
 status_of false = Status.Refused
@@ -17,7 +17,7 @@ status_of false = Status.Refused
 abbrev lines_of : RawSettings → Terms → Entrant → List Met → List ℕ
 lines_of s terms mine ms = heading terms.view ++ met_lines s terms mine ms
 
--- the opponents of the first files were met
+-- the opponents of the first `place` files were met
 pub record SoFar (s : RawSettings) (terms : Terms) (mine : Entrant) (files : List (List ℕ)) (place : ℕ) (status : Status) (fought : ℕ) (sum : Tally) (o p : Option (List ℕ)) : Type 0 where
   pub opponents : List Met
   pub named : map (λ (m : Met). m.file) opponents ≡ take place files
@@ -128,7 +128,7 @@ module _ (s : RawSettings) (terms : Terms) (mine : Entrant) where
           written = subst (Appends o q) (more_lines ms m) (Appends-trans o p q (lines_of s terms mine ms) (met_line s terms mine m) so_far.written written);
         }
 
-    -- it isn't there
+    -- it has no warrior
     pub one_missing : Meets s terms mine file sum new Status.Refused p q e f → SoFar s terms mine files (place + 1) Status.Refused fought new o q
     one_missing (same, kept, told) =
         let ms = so_far.opponents in
@@ -143,7 +143,7 @@ module _ (s : RawSettings) (terms : Terms) (mine : Entrant) where
           written = subst (Appends o q) (more_lines ms m) (Appends-trans o p q (lines_of s terms mine ms) [] so_far.written (nothing_more p q kept));
         }
 
-    -- the output failed at its line
+    -- the output failed while its line was written
     pub one_failed : Meets s terms mine file sum new Status.StreamFault p q e f → (g : Option (List ℕ)) → WritesSome g e
         → EndsMeetings s terms mine files Status.StreamFault o q g f
     one_failed (other, comes, part, told) g some =
@@ -158,7 +158,7 @@ module _ (s : RawSettings) (terms : Terms) (mine : Entrant) where
           (e, some, told),
         )
 
-    -- memory ran out
+    -- memory ran out before its line was written
     pub one_lost : Meets s terms mine file sum new Status.NoMemory p q e f → (g : Option (List ℕ)) → WritesSome g e
         → EndsMeetings s terms mine files Status.NoMemory o q g f
     one_lost (kept, told) g some =
@@ -169,7 +169,7 @@ module _ (s : RawSettings) (terms : Terms) (mine : Entrant) where
 
 -- ---- standard error
 
--- what it got so far
+-- what standard error got while opponents were met
 abbrev pub NotesSo : View → Status → Option (List ℕ) → Option (List ℕ) → Type 0
 NotesSo view Status.Done e f = Notes view e f
 NotesSo view status e f = WritesSome e f
@@ -209,7 +209,7 @@ notes_kept view status e f g h some progress kept =
 
 module _ (s : RawSettings) (terms : Terms) (mine : Entrant) (files : List (List ℕ)) (place : ℕ) (status : Status) (fought : ℕ) (sum : Tally) (o p q e f g : Option (List ℕ))
     (so_far : SoFar s terms mine files place status fought sum o p) (notes : NotesSo terms.view status e f) where
-  -- the line of all
+  -- the last line is the line of all that were met
   sum_is : sum_line terms.view (contender mine) fought sum
       ≡ sum_line terms.view (contender mine) (met_count so_far.opponents) (met_sum s terms.both mine so_far.opponents)
   sum_is = ap₂ (sum_line terms.view (contender mine)) so_far.counts so_far.sums
@@ -241,11 +241,11 @@ module _ (s : RawSettings) (terms : Terms) (mine : Entrant) (files : List (List 
       subst (λ t. EndsMeetings s terms mine files t o q e g) (sym ends)
       ((_, contest past false is, all_written written), writes_more e f g so (keeps_some f g kept))
 
-  -- the sum was written
+  -- the last line was written
   pub all_met : length files ≤ place → EndsLine (sum_line terms.view (contender mine) fought sum) Status.Done p q f g → EndsMeetings s terms mine files status o q e g
   all_met past (written, kept) = ends_as past written kept (all_fought so_far.opponents) refl so_far.ends
 
-  -- or it was not
+  -- the last line was not written, or only a part of it
   pub sum_failed : (end : Status) → (end ≡ Status.Done → ⊥) → EndsLine (sum_line terms.view (contender mine) fought sum) end p q f g → EndsMeetings s terms mine files end o q e g
   sum_failed Status.Done other ends = absurd (other refl)
   sum_failed Status.Refused other ends = absurd ends
@@ -272,7 +272,7 @@ module _ (s : RawSettings) (terms : Terms) (mine : Entrant) (files : List (List 
         (f, some_so_far terms.view status e f notes, told),
       )
 
--- not even the heading was written
+-- the heading was not written, or only a part of it
 pub not_begun : (s : RawSettings) (terms : Terms) (mine : Entrant) (files : List (List ℕ)) (end : Status) (o p e f : Option (List ℕ))
     → (end ≡ Status.Done → ⊥) → EndsLine (heading terms.view) end o p e f → EndsMeetings s terms mine files end o p e f
 not_begun s terms mine files Status.Done o p e f other ends = absurd (other refl)
@@ -291,7 +291,7 @@ not_begun s terms mine files Status.NoMemory o p e f other (kept, told) = (
   (e, keeps_some e e (Keeps-refl e), told),
 )
 
--- memory ran out before that
+-- memory ran out before the heading was written
 pub no_arena : (s : RawSettings) (terms : Terms) (mine : Entrant) (files : List (List ℕ)) (trouble : Trouble) (end : Status) (o e f : Option (List ℕ))
     → trouble ≡ no_memory → Tells trouble end e f → EndsMeetings s terms mine files end o o e f
 no_arena s terms mine files trouble end o e f is told =
@@ -300,7 +300,7 @@ no_arena s terms mine files trouble end o e f is told =
     subst (λ t. EndsMeetings s terms mine files t o o e f) (sym so.ends)
     (not_begun s terms mine files Status.NoMemory o o e f lost (Keeps-refl o, so.word))
 
--- a meeting that ended early
+-- the meeting with the next opponent ended all
 pub meeting_failed : (s : RawSettings) (terms : Terms) (mine : Entrant) (files : List (List ℕ)) (place : ℕ) (status end : Status) (fought : ℕ)
     (sum new : Tally) (o p q e f g : Option (List ℕ)) (file : List ℕ) → place < length files → file ≡ get_or files place [] → SoFar s terms mine files place status fought sum o p
     → (end ≡ Status.Done → ⊥) → (end ≡ Status.Refused → ⊥) → Meets s terms mine file sum new end p q e f → WritesSome g e

@@ -1,10 +1,10 @@
--- The round that is shown, and what is answered of it.
-use Rattle.std.proofs.Common.{◌≡◌, inl, inr, ℕ, ◌+◌, ◌<◌, ◌≤◌, Bool, true, false, ◌&&◌, List, [], Option, None, Some, option_map, refl, sym, ap₂, subst, arith, le-leb}
+-- The number of the round that is shown, and an answer whose page is put into a file.
+use Rattle.std.proofs.Common.{◌≡◌, ℕ, ◌+◌, ◌<◌, ◌≤◌, Bool, true, false, ◌&&◌, List, Option, None, Some, option_map, refl, sym, ap₂, subst, arith, le-leb}
 use Rattle.{war_types.specs.{Warrior.WarriorParts, declared.settings.RawSettings.RawSettings}, mars_core.specs.declared.round.Outcome.Outcome}
-use Rattle.koth_commands.specs.{Answer.{AnswerParts, answer_parts}, Pair.IsWarriorOf, declared.status.Status.Status}
+use Rattle.koth_commands.specs.{Answer.AnswerParts, declared.status.Status.Status}
 use Rattle.koth_words.specs.declared.requests.{Round.Round, View.View}
 use Rattle.koth_contests.specs.{Pair.{AnswersAs, IsAnswer}, Rounds.IsFirst}
-use Rattle.koth_contests.specs.Replay.{HasNone, IsFirstNumber, IsNumber, IsPage, IsRoundText, IsShown, IsUnplayed, IsWatched, has_round, may_have, page_left, with_page}
+use Rattle.koth_contests.specs.Replay.{HasNone, IsFirstNumber, IsNumber, IsPage, IsWatched, has_round, may_have, page_left, with_page}
 
 module _ (s : RawSettings) (older younger : WarriorParts) where
   has_number : (number : ℕ) → 1 ≤ number → number ≤ s.rounds → has_round s number ≡ true
@@ -23,28 +23,6 @@ module _ (s : RawSettings) (older younger : WarriorParts) where
   pub asked_number : (round : Round) (number : ℕ) → round ≡ Round.Number number → may_have s round ≡ true → IsNumber s older younger round (Some number)
   asked_number round number is may =
       subst (λ r. IsNumber s older younger r (Some number)) (sym is) (refl, subst (λ r. may_have s r ≡ true) is may)
-
-  module _ (round : Round) (first : IsWarriorOf s older) (second : IsWarriorOf s younger) where
-    watched_as : (number : ℕ) → IsShown s older younger round number → (status : Status) (text note : List ℕ)
-        → AnswersAs s View.Plain (IsRoundText s older younger number) ⊥ status text note → AnswersAs s View.Plain (IsWatched s round) (HasNone s round) status text note
-    watched_as number shown Status.Done text note (page, none) = (
-      record { older = older; younger = younger; older_comes = first; younger_comes = second; number = number; asked = shown; shown = page },
-      none,
-    )
-    watched_as number shown Status.Refused text note (inl refused) = inl refused
-    watched_as number shown Status.Refused text note (inr nothing) = absurd nothing.0
-    watched_as number shown Status.WordFault text note answers = absurd answers
-    watched_as number shown Status.StreamFault text note answers = absurd answers
-    watched_as number shown Status.NoMemory text note answers = absurd answers
-
-    pub watched : (number : ℕ) → IsShown s older younger round number → (a : AnswerParts) → IsAnswer s View.Plain (IsRoundText s older younger number) ⊥ a
-        → IsAnswer s View.Plain (IsWatched s round) (HasNone s round) a
-    watched number shown a is = watched_as number shown a.status a.text a.note is
-
-    pub nothing_shown : IsUnplayed s older younger round → (a : AnswerParts) → a ≡ answer_parts Status.Refused [] a.note
-        → IsAnswer s View.Plain (IsWatched s round) (HasNone s round) a
-    nothing_shown none a is = subst (IsAnswer s View.Plain (IsWatched s round) (HasNone s round)) (sym is)
-        (inr (record { older = older; younger = younger; older_comes = first; younger_comes = second; none = none }, refl))
 
 -- ---- a page that is put into a file
 

@@ -1,14 +1,14 @@
 -- A line that was delivered.
-use Rattle.std.proofs.Common.{◌≡◌, inl, inr, ℕ, List, [], Option, None, Some, Result, Ok, Err, IfOk, Vec, sym, subst, refl, ◌∷◌, ◌++◌, ap, ap₂, codes, ◌∙◌, append-nil}
+use Rattle.std.proofs.Common.{◌≡◌, inl, inr, ℕ, List, [], Option, None, Some, Result, Ok, Err, IfOk, Vec, sym, subst, refl, ◌∷◌, ◌++◌, ap, ap₂, ◌∙◌, append-nil}
 use Rattle.{std.specs.Io.KnownBytes.{Appends, Keeps}, koth_text.specs.Written.WritesPart}
 use Rattle.{war_types.specs.{Warrior.WarriorParts, declared.settings.RawSettings.RawSettings}, koth_text.specs.declared.tally.Tally.Tally}
 use Rattle.koth_commands.specs.{Answer.{AnswerParts, Delivers, DeliversText, answer_parts}, Pair.IsWarriorOf, Told.{TellsWord, WritesSome}, Trouble.{IsReadFault, Tells, fault_status, fault_word}}
 use Rattle.koth_commands.specs.declared.{status.Status.Status, trouble.Trouble.Trouble}
 use Rattle.koth_contests.specs.{Contest.{added, contest_tally}, Met.{EndsLine, EndsMade, IsLineAnswer, Meets, TellsNone, line_against}, declared.meeting.Terms.Terms}
-use Rattle.{koth_words.specs.declared.requests.View.View, koth_json.specs.declared.contest.Contender.Contender}
-use Rattle.koth_contests.specs.Lines.{Entrant, IsContender, contender, contest_line, counts_columns, counts_told, opponent_columns, opponent_told, sum_line}
+use Rattle.{koth_words.specs.declared.requests.View.View, koth_json.specs.Contest.ContenderParts}
+use Rattle.koth_contests.specs.Lines.{Entrant, contest_line}
 
--- bytes that grow by nothing stay
+-- contents that grow by no bytes stay
 pub stays : (a b : Option (List ℕ)) (bytes : List ℕ) → bytes ≡ [] → Appends a b bytes → Keeps a b
 stays None b bytes is same = tt
 stays (Some xs) None bytes is same = same
@@ -18,7 +18,7 @@ none_first : (part rest : List ℕ) → [] ≡ part ++ rest → part ≡ []
 none_first [] rest is = refl
 none_first (x ∷ part) rest is = cc
 
--- and so do those that grow by a part of nothing
+-- contents that grow by a part of no bytes stay
 pub nothing_written : (a b : Option (List ℕ)) → WritesPart a b [] → Keeps a b
 nothing_written a b w = stays a b w.part (none_first w.part w.rest w.split) w.written
 
@@ -34,50 +34,22 @@ module _ (o p e f : Option (List ℕ)) where
       let told = subst (λ d. Delivers d status o p e f) is delivered in
       (told.1.ends, told.0, told.1.word)
 
-  -- how it ends with the line of this text
+  -- how the writing of a line ends if it has this text
   pub line_of : {A E : Type 0} (line : Result (Vec ℕ A) E) (text : List ℕ) (status : Status) → IfOk line (λ l. l.items ≡ text)
       → EndsMade line status o p e f → EndsLine text status o p e f
   line_of (Ok line) text status is ends = subst (λ t. EndsLine t status o p e f) is ends
   line_of (Err error) text status is ends = subst (λ t. EndsLine text t o p e f) (sym ends.0) (ends.1, ends.2)
 
--- ---- a line has the values of its references
+-- a line has nothing of its warriors but their parts
+pub of_contest : {A E : Type 0} (line : Result (Vec ℕ A) E) (view : View) (m mine o other : ContenderParts) (t tally : Tally) → m ≡ mine → o ≡ other
+    → t ≡ tally → IfOk line (λ l. l.items ≡ contest_line view m o t) → IfOk line (λ l. l.items ≡ contest_line view mine other tally)
+of_contest line view m mine o other t tally is are counts told =
+    subst (λ text. IfOk line (λ l. l.items ≡ text)) (ap₂ (λ a b. contest_line view a b t) is are ∙ ap (contest_line view mine other) counts) told
 
-same_contest : (view : View) (mine other : Entrant) (m o : Contender) (t : Tally) → IsContender mine m → IsContender other o
-    → contest_line view m o t ≡ contest_line view (contender mine) (contender other) t
-same_contest View.Plain mine other m o t is are = ap (λ file. counts_told t ++ (opponent_told file ++ codes "\n")) are.file
-same_contest View.Table mine other m o t is are =
-    ap₂ (λ name file. counts_columns t ++ (opponent_columns name file ++ codes "\n")) are.name are.file
-same_contest View.Json mine other m o t is are =
-    let file = is.file in
-    let name = is.name in
-    let author = is.author in
-    let other_file = are.file in
-    let other_name = are.name in
-    let other_author = are.author in
-    cc
-
-same_sum : (view : View) (mine : Entrant) (m : Contender) (count : ℕ) (t : Tally) → IsContender mine m
-    → sum_line view m count t ≡ sum_line view (contender mine) count t
-same_sum View.Plain mine m count t is = refl
-same_sum View.Table mine m count t is = refl
-same_sum View.Json mine m count t is =
-    let file = is.file in
-    let name = is.name in
-    let author = is.author in
-    cc
-
-module _ {A E : Type 0} (line : Result (Vec ℕ A) E) (view : View) (mine : Entrant) (m : Contender) (t : Tally) (is : IsContender mine m) where
-  pub of_contest : (other : Entrant) (o : Contender) → IsContender other o → IfOk line (λ l. l.items ≡ contest_line view m o t)
-      → IfOk line (λ l. l.items ≡ contest_line view (contender mine) (contender other) t)
-  of_contest other o are told = subst (λ text. IfOk line (λ l. l.items ≡ text)) (same_contest view mine other m o t is are) told
-
-  pub of_sum : (count : ℕ) → IfOk line (λ l. l.items ≡ sum_line view m count t) → IfOk line (λ l. l.items ≡ sum_line view (contender mine) count t)
-  of_sum count told = subst (λ text. IfOk line (λ l. l.items ≡ text)) (same_sum view mine m count t is) told
-
--- ---- how a meeting ends
+-- ---- how the meeting with an opponent ends
 
 module _ (s : RawSettings) (terms : Terms) (mine : Entrant) (file : List ℕ) (sum new : Tally) (o p e f : Option (List ℕ)) where
-  -- with its line
+  -- it has a warrior, and its line was to be written
   pub meets_with : (other : WarriorParts) (status : Status) → IsWarriorOf s other → new ≡ added sum (contest_tally s terms.both mine.warrior other)
       → EndsLine (line_against s terms mine file (Some other)) status o p e f → Meets s terms mine file sum new status o p e f
   meets_with other Status.Done comes adds (written, kept) = (other, comes, adds, written, kept)
@@ -86,7 +58,7 @@ module _ (s : RawSettings) (terms : Terms) (mine : Entrant) (file : List ℕ) (s
   meets_with other Status.StreamFault comes adds (part, told) = (other, comes, part, told)
   meets_with other Status.NoMemory comes adds ends = ends
 
-  -- without
+  -- it has no warrior
   pub meets_none : (status : Status) → new ≡ sum → Keeps o p → TellsNone status e f → Meets s terms mine file sum new status o p e f
   meets_none Status.Done same kept told = absurd told
   meets_none Status.Refused same kept told = (same, kept, told)
@@ -94,7 +66,7 @@ module _ (s : RawSettings) (terms : Terms) (mine : Entrant) (file : List ℕ) (s
   meets_none Status.StreamFault same kept told = absurd told
   meets_none Status.NoMemory same kept told = (kept, told)
 
--- a trouble that was told, as of an opponent that isn't there
+-- the trouble for which an opponent has no warrior was told, and memory ran out
 pub told_none : (trouble : Trouble) (status : Status) (e f : Option (List ℕ)) → IsReadFault trouble → Tells trouble status e f → status ≡ Status.NoMemory
     → TellsNone Status.NoMemory e f
 told_none trouble status e f (inl stream) told is =

@@ -5,7 +5,7 @@ use Rattle.{koth_words.specs.declared.requests.View.View, koth_commands.specs.{P
 use Rattle.koth_commands.specs.declared.{status.Status.Status, trouble.{Fault.Fault, Trouble.Trouble}}
 use Rattle.koth_contests.specs.{Contest.{added, contest_tally, no_rounds, tally}, Lines.{Entrant, contender, contest_line, entrant, heading, sum_line}, declared.meeting.Terms.Terms}
 
--- an opponent: what messages call its file, and the warrior that its source assembles to; none if the file can't be read or its source is refused
+-- an opponent: what messages call its file, and the warrior that its source assembles to; no warrior if the file can't be read or the source is refused
 pub record Met : Type 0 where
   pub file : List ℕ
   pub warrior : Option WarriorParts
@@ -17,12 +17,12 @@ abbrev pub is_fought : Option WarriorParts → Bool
 is_fought None = false
 is_fought (Some warrior) = true
 
--- the rounds of mine against this opponent: none against one that isn't there
+-- the rounds of mine against this opponent: no rounds if the opponent has no warrior
 abbrev pub tally_against : RawSettings → Bool → Entrant → Option WarriorParts → Tally
 tally_against s both mine None = no_rounds
 tally_against s both mine (Some other) = contest_tally s both mine.warrior other
 
--- the line of this opponent: none of one that isn't there
+-- the line of this opponent: no line if it has no warrior
 abbrev pub line_against : RawSettings → Terms → Entrant → List ℕ → Option WarriorParts → List ℕ
 line_against s terms mine file None = []
 line_against s terms mine file (Some other) =
@@ -35,7 +35,7 @@ met_line s terms mine m = line_against s terms mine m.file m.warrior
 abbrev pub met_lines : RawSettings → Terms → Entrant → List Met → List ℕ
 met_lines s terms mine ms = flat_map (met_line s terms mine) ms
 
--- 1 for an opponent that is there, and 0 for another one
+-- 1 for an opponent that has a warrior, else 0
 abbrev pub count_of : Option WarriorParts → ℕ
 count_of None = 0
 count_of (Some warrior) = 1
@@ -70,7 +70,7 @@ pub record IsContest (s : RawSettings) (terms : Terms) (mine : Entrant) (files :
   pub all : whole ≡ all_fought opponents
   pub tells : text ≡ contest_text s terms mine opponents
 
--- the same of the first of the files
+-- the text of mine against the first files of these names
 pub record IsBegun (s : RawSettings) (terms : Terms) (mine : Entrant) (files : List (List ℕ)) (text : List ℕ) : Type 0 where
   pub opponents : List Met
   pub rest : List (List ℕ)
@@ -78,7 +78,7 @@ pub record IsBegun (s : RawSettings) (terms : Terms) (mine : Entrant) (files : L
   pub come : All (IsMet s) opponents
   pub tells : text ≡ contest_text s terms mine opponents
 
--- what standard error gets if all were fought: nothing beside lines for programs
+-- what standard error gets if mine fought them all: nothing if the lines are for programs
 abbrev pub Notes : View → Option (List ℕ) → Option (List ℕ) → Type 0
 Notes View.Plain e f = Keeps e f
 Notes View.Table e f = WritesSome e f
@@ -88,8 +88,8 @@ Notes View.Json e f = Keeps e f
 abbrev pub TellsAfter : List ℕ → Option (List ℕ) → Option (List ℕ) → Type 0
 TellsAfter word e f = (mid : Option (List ℕ)) × WritesSome e mid × TellsWord word mid f
 
--- how mine against these files ends, by what the output and then standard error hold before and after: all of the text is written, and what
--- is told of opponents that aren't there; or a part of it, since the output failed or memory ran out
+-- how mine against these files ends, by what the output and then standard error hold before and after: all of the text is written, and why
+-- opponents have no warrior; or a part of the text, since the output failed or memory ran out
 abbrev pub EndsMeetings : RawSettings → Terms → Entrant → List (List ℕ) → Status → Option (List ℕ) → Option (List ℕ) → Option (List ℕ) → Option (List ℕ) → Type 0
 EndsMeetings s terms mine files Status.Done o p e f = ((text : List ℕ) × IsContest s terms mine files true text × Appends o p text) × Notes terms.view e f
 EndsMeetings s terms mine files Status.Refused o p e f = ((text : List ℕ) × IsContest s terms mine files false text × Appends o p text) × WritesSome e f
@@ -99,7 +99,7 @@ EndsMeetings s terms mine files Status.StreamFault o p e f =
 EndsMeetings s terms mine files Status.NoMemory o p e f =
     ((text : List ℕ) × IsBegun s terms mine files text × WritesPart o p text) × TellsAfter (fault_word Fault.Memory) e f
 
--- how the meeting with one opponent ends: its line is written and its rounds are added; or nothing is written on the output, and why is told;
+-- how the meeting with one opponent ends: its line is written and its rounds are added; or it has no warrior, and standard error says why;
 -- or a part of its line is written; or memory ran out
 abbrev pub Meets : RawSettings → Terms → Entrant → List ℕ → Tally → Tally → Status → Option (List ℕ) → Option (List ℕ) → Option (List ℕ) → Option (List ℕ) → Type 0
 Meets s terms mine file sum new Status.Done o p e f = (other : WarriorParts) × IsWarriorOf s other
@@ -110,7 +110,7 @@ Meets s terms mine file sum new Status.StreamFault o p e f = (other : WarriorPar
     × WritesPart o p (line_against s terms mine file (Some other)) × TellsWord (fault_word Fault.Stream) e f
 Meets s terms mine file sum new Status.NoMemory o p e f = Keeps o p × TellsWord (fault_word Fault.Memory) e f
 
--- what is told of an opponent that isn't there
+-- what standard error gets about an opponent that has no warrior
 abbrev pub TellsNone : Status → Option (List ℕ) → Option (List ℕ) → Type 0
 TellsNone Status.Done e f = ⊥
 TellsNone Status.Refused e f = WritesSome e f
@@ -118,12 +118,12 @@ TellsNone Status.WordFault e f = ⊥
 TellsNone Status.StreamFault e f = ⊥
 TellsNone Status.NoMemory e f = TellsWord (fault_word Fault.Memory) e f
 
--- a line as an answer, or a lack of memory
+-- the line as an answer, if there was memory for it
 abbrev pub IsLineAnswer : {A E : Type 0} → Result (Vec ℕ A) E → Result AnswerParts Trouble → Type 0
 IsLineAnswer (Ok line) answer = answer ≡ Ok (answer_parts Status.Done line.items [])
 IsLineAnswer (Err e) answer = answer ≡ Err no_memory
 
--- how it ends that a line is written: whole and nothing is reported, or a part of it, or none of it for lack of memory
+-- how the writing of a line ends: all of it is written and nothing is reported, or a part of it, or none of it for lack of memory
 abbrev pub EndsLine : List ℕ → Status → Option (List ℕ) → Option (List ℕ) → Option (List ℕ) → Option (List ℕ) → Type 0
 EndsLine text Status.Done o p e f = Appends o p text × Keeps e f
 EndsLine text Status.Refused o p e f = ⊥
@@ -131,7 +131,7 @@ EndsLine text Status.WordFault o p e f = ⊥
 EndsLine text Status.StreamFault o p e f = WritesPart o p text × TellsWord (fault_word Fault.Stream) e f
 EndsLine text Status.NoMemory o p e f = Keeps o p × TellsWord (fault_word Fault.Memory) e f
 
--- the same of a line that was made, if there was memory for it
+-- how the writing of a line ends that was made before, if there was memory for that
 abbrev pub EndsMade : {A E : Type 0} → Result (Vec ℕ A) E → Status → Option (List ℕ) → Option (List ℕ) → Option (List ℕ) → Option (List ℕ) → Type 0
 EndsMade (Ok line) status o p e f = EndsLine line.items status o p e f
 EndsMade (Err error) status o p e f = (status ≡ Status.NoMemory) × Keeps o p × TellsWord (fault_word Fault.Memory) e f

@@ -10,15 +10,15 @@ names_of {A} opponents = map (λ (o : Opponent A). string_bytes o.name) opponent
 abbrev pub IsIn : List ℕ → List ℕ → Type 0
 IsIn folder file = (rest : List ℕ) × (file ≡ folder ++ rest)
 
--- the names of the sources that a word stands for: its own alone, or those of what is in the folder of that name
+-- the names of the sources that a word stands for: the word itself, or names of files in the folder of that name
 abbrev pub StandsFor : List ℕ → List (List ℕ) → Type 0
 StandsFor word files = (files ≡ word ∷ []) ⊎ All (IsIn word) files
 
--- those were put behind others
+-- the names that the word stands for were put behind the old ones
 abbrev pub PutsFiles : List ℕ → List (List ℕ) → List (List ℕ) → Type 0
 PutsFiles word old new = (files : List (List ℕ)) × StandsFor word files × (new ≡ old ++ files)
 
--- one was put there that is in this folder
+-- one name in this folder was put behind the old ones
 abbrev pub PutsIn : List ℕ → List (List ℕ) → List (List ℕ) → Type 0
 PutsIn folder old new = (file : List ℕ) × IsIn folder file × (new ≡ old ++ file ∷ [])
 

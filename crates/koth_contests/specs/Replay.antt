@@ -9,7 +9,7 @@ use Rattle.koth_contests.specs.{Pair.EndsMatch, Rounds.IsFirst, declared.replay.
 abbrev pub has_round : RawSettings → ℕ → Bool
 has_round s number = is_from_to 1 s.rounds number
 
--- the same of a round that is asked for by its number; one that is asked for by its end may be there
+-- whether a match may have the round that is asked for: by its number, if it has that round; by its end, always
 abbrev pub may_have : RawSettings → Round → Bool
 may_have s (Round.Number number) = has_round s number
 may_have s round = true
@@ -23,26 +23,26 @@ with_round round (Err fault) = Err fault
 abbrev pub IsFirstAt : RawSettings → WarriorParts → WarriorParts → Outcome → ℕ → Type 0
 IsFirstAt s older younger wanted number = (at : ℕ) × (number ≡ at + 1) × IsFirst s older younger wanted (Some at)
 
--- the number of the round that is shown: the one that is asked for, or that of the first round that ended so
+-- the number of the round that is shown: the number that is asked for, or the number of the first round that ended so
 abbrev pub IsShown : RawSettings → WarriorParts → WarriorParts → Round → ℕ → Type 0
 IsShown s older younger (Round.Number asked) number = number ≡ asked
 IsShown s older younger Round.Lost number = IsFirstAt s older younger Outcome.Second number
 IsShown s older younger Round.Won number = IsFirstAt s older younger Outcome.First number
 IsShown s older younger Round.Tied number = IsFirstAt s older younger Outcome.Tie number
 
--- there is no such round
+-- the match has no round that ended as it is asked for
 abbrev pub IsUnplayed : RawSettings → WarriorParts → WarriorParts → Round → Type 0
 IsUnplayed s older younger (Round.Number number) = ⊥
 IsUnplayed s older younger Round.Lost = IsFirst s older younger Outcome.Second None
 IsUnplayed s older younger Round.Won = IsFirst s older younger Outcome.First None
 IsUnplayed s older younger Round.Tied = IsFirst s older younger Outcome.Tie None
 
--- the number of the round, or none if no round ended so
+-- the number of the round that is shown, or none if no round ended so
 abbrev pub IsNumber : RawSettings → WarriorParts → WarriorParts → Round → Option ℕ → Type 0
 IsNumber s older younger round found =
     MatchOption found (IsUnplayed s older younger round) (λ number. IsShown s older younger round number × (has_round s number ≡ true))
 
--- the same of the first round that ended so
+-- the number of the first round that ended so, or none
 abbrev pub IsFirstNumber : RawSettings → WarriorParts → WarriorParts → Outcome → Option ℕ → Type 0
 IsFirstNumber s older younger wanted found = MatchOption found (IsFirst s older younger wanted None)
     (λ number. IsFirstAt s older younger wanted number × (has_round s number ≡ true))

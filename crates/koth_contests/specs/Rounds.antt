@@ -3,8 +3,8 @@ use Rattle.std.specs.{Prelude.{◌≡◌, ℕ, ◌+◌, ◌<◌, ◌≢◌, Matc
 use Rattle.{war_types.specs.{Warrior.WarriorParts, declared.settings.RawSettings.RawSettings}, mars_core.specs.declared.round.{Outcome.Outcome, Side.Side}}
 use Rattle.{koth_match.specs.{Match.{AreCounts, first_in, match_of, round_outcome}, Seeds.{position, seed_of_round}}, koth_replay.specs.Replay.turns_in}
 use Rattle.{koth_text.specs.{Columns.padded, declared.columns.Alignment.Alignment}, koth_words.specs.declared.requests.View.View}
-use Rattle.koth_json.specs.{Contest.{round_line as round_object}, declared.contest.Round.Round}
-use Rattle.koth_contests.specs.{Lines.refers, declared.rounds.Played.Played}
+use Rattle.koth_json.specs.Contest.{round_line as round_object}
+use Rattle.koth_contests.specs.declared.rounds.Played.Played
 
 -- round r of a match, counted from 0: its number is counted from 1
 abbrev pub round_of : RawSettings → WarriorParts → WarriorParts → ℕ → Played
@@ -36,7 +36,7 @@ outcome_name Outcome.Tie = codes "tie"
 abbrev pub ends_told : Played → List ℕ
 ends_told p = side_name p.first ++ (codes " " ++ (outcome_name p.outcome ++ (codes " " ++ (decimal p.turns ++ codes "\n"))))
 
--- the same in columns
+-- who moved first, who won, and how many turns were made, in columns
 abbrev pub ends_columns : Played → List ℕ
 ends_columns p = padded Alignment.Right 7 (side_name p.first)
     ++ (padded Alignment.Right 6 (outcome_name p.outcome) ++ (padded Alignment.Right 9 (decimal p.turns) ++ codes "\n"))
@@ -46,28 +46,17 @@ ends_columns p = padded Alignment.Right 7 (side_name p.first)
 abbrev pub round_told : Played → List ℕ
 round_told p = decimal p.number ++ (codes " " ++ (decimal p.seed ++ (codes " " ++ (decimal p.position ++ (codes " " ++ ends_told p)))))
 
--- the same in columns
+-- the line of a round for people, in columns
 abbrev pub round_columns : Played → List ℕ
 round_columns p = padded Alignment.Right 5 (decimal p.number) ++ (padded Alignment.Right 12 (decimal p.seed)
     ++ (padded Alignment.Right 10 (decimal p.position) ++ ends_columns p))
 
--- the same as lines of JSON have it
-abbrev pub round_fields : Played → Round
-round_fields p = record {
-  number = p.number;
-  seed = p.seed;
-  position = p.position;
-  first = refers (side_name p.first);
-  outcome = refers (outcome_name p.outcome);
-  turns = p.turns;
-}
-
 abbrev pub round_line : View → Played → List ℕ
 round_line View.Plain p = round_told p
 round_line View.Table p = round_columns p
-round_line View.Json p = round_object (round_fields p)
+round_line View.Json p = round_object p.number p.seed p.position (side_name p.first) (outcome_name p.outcome) p.turns
 
--- the line over those of the rounds, for people
+-- the heading of the rounds' lines: only people get one
 abbrev pub rounds_heading : View → List ℕ
 rounds_heading View.Plain = []
 rounds_heading View.Table = codes "round        seed  position  first   won    turns\n"

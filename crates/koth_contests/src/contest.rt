@@ -1,7 +1,7 @@
 //! A contest of one warrior against another, in counts and points.
 
 ghost use Rattle.std.specs.Prelude.{◌≡◌, ◌+◌, ◌≤◌};
-ghost use Rattle.{war_types.specs.Warrior.Fits, koth_contests.specs.Contest.{added, contest_tally, points_of}};
+ghost use Rattle.{war_types.specs.Warrior.Fits, koth_contests.specs.Contest.{added, contest_tally, most_rounds, points_of, rounds_in}};
 
 use koth_match::fight;
 use koth_text::Tally;
@@ -22,11 +22,10 @@ pub fn contest_tally<A: Allocator, B: Allocator, C: Allocator>(
     requires mine { Fits settings.now mine.now }
     requires other { Fits settings.now other.now }
     ensures tally { result ≡ contest_tally settings.now both mine.now other.now }
-    ensures won { result.won ≤ 131070 }
-    ensures lost { result.lost ≤ 131070 }
-    ensures tied { result.tied ≤ 131070 }
+    ensures rounds { rounds_in result ≤ most_rounds }
     ensures settings { arena.new.settings ≡ arena.old.settings }
 {
+    let _rounds = settings.rounds();
     let first = Tally::of_older(fight(arena, mine, other, settings));
     if both {
         added(
@@ -38,11 +37,9 @@ pub fn contest_tally<A: Allocator, B: Allocator, C: Allocator>(
     }
 }
 
-/// The rounds of both.
+/// The rounds of both, which must be few enough to be counted.
 pub fn added(a: Tally, b: Tally) -> Tally
-    requires won { a.won + b.won ≤ u64.MAX }
-    requires lost { a.lost + b.lost ≤ u64.MAX }
-    requires tied { a.tied + b.tied ≤ u64.MAX }
+    requires { rounds_in a + rounds_in b ≤ u64.MAX }
     ensures { result ≡ added a b }
 {
     Tally {

@@ -1,8 +1,8 @@
 //! The command `fight`: from the sources of a warrior and of its opponents to the counts of their matches.
 
-ghost use Rattle.std.specs.Prelude.{◌≡◌, None, false, IfOk, MatchOption, MatchResult};
-ghost use Rattle.{war_types.specs.Settings.settings_of, koth_commands.specs.{Pair.IsWarriorOf, Streams.streams, Trouble.IsReadFault}};
-ghost use Rattle.koth_contests.specs.{Lines.entrant, Fight.{bout_line, bout_text, EndsFight, EndsFightUnder, EndsMany, IsAlone, IsFought, MayBeMany}, Pair.{ArePairOf, IsAnswer}};
+ghost use Rattle.std.specs.Prelude.{◌≡◌, None, IfOk, MatchOption, MatchResult};
+ghost use Rattle.{war_types.specs.Settings.settings_of, koth_commands.specs.{Pair.IsWarriorOf, Streams.{source_name, streams}, Trouble.IsReadFault}};
+ghost use Rattle.koth_contests.specs.{Lines.entrant, Fight.{bout_line, bout_text, EndsFight, EndsFightUnder, EndsMany, IsAlone, IsFought, IsToldOf, MayBeMany}, Pair.{ArePairOf, IsAnswer}};
 
 use crate::lines::{contender, contest_line};
 use crate::meeting::{Terms, meet_all};
@@ -20,7 +20,7 @@ use std::io::{Read, Write};
 use std::rt::Files;
 use war_types::{RawSettings, Settings, Warrior};
 
-/// Most opponents that are counted: more don't fit the memory.
+/// Most opponents that are met: more don't fit the memory.
 const MOST_OPPONENTS: usize = 4_294_967_296;
 
 /// Plays the matches of a warrior against its opponents, under the settings that are given, and writes their counts.
@@ -62,24 +62,15 @@ fn fight_under<R: Files, A: Allocator + Copy, I: Read, O: Write, E: Write>(
 {
     match lone_opponent(rt, fighters) {
         Some(younger) => {
-            let done = fight_two(
-                rt,
-                alloc,
-                settings,
-                fighters.older,
-                younger,
-                fighters.each,
-                view,
-                input,
-            );
+            let done = fight_two(rt, alloc, settings, fighters, younger, view, input);
             deliver(alloc, done, false, output, errors)
         }
         None => fight_many(rt, alloc, settings, fighters, view, input, output, errors),
     }
 }
 
-/// The only opponent, if there is one of which the match alone is told: it is no folder, and isn't met in the other
-/// order too.
+/// The opponent whose match alone is told, if there is such a one: with `each` the first opponent, else the only one, if
+/// it is no folder and isn't met in the other order too.
 fn lone_opponent<'w, R: Files>(rt: &R, fighters: &Fighters<'w>) -> Option<Source<'w>>
     ensures { MatchOption result (MayBeMany fighters.now.each fighters.now.opponents.items)
         (IsAlone fighters.now.both fighters.now.each fighters.now.opponents.items) }
@@ -91,48 +82,30 @@ fn lone_opponent<'w, R: Files>(rt: &R, fighters: &Fighters<'w>) -> Option<Source
     }
 }
 
-/// Plays the match of two warriors, and answers its counts or its rounds.
+/// Plays the match of the older warrior and of `younger`, and answers its counts or its rounds.
 fn fight_two<'f, R: Files, A: Allocator + Copy, I: Read>(
     rt: &R,
     alloc: A,
     settings: &Settings,
-    older: Source<'f>,
+    fighters: &Fighters<'f>,
     younger: Source<'f>,
-    each: bool,
     view: View,
     input: &mut I,
 ) -> Result<Answer<A>, Trouble<'f>>
-    ensures { MatchResult result (IsAnswer settings.now view (IsFought settings.now older.entry younger.entry each view) ⊥) IsReadFault }
+    ensures { MatchResult result (IsAnswer settings.now view
+        (IsFought settings.now fighters.now.older younger.entry fighters.now.each view) ⊥) IsReadFault }
 {
+    let older = fighters.older;
     match pair_from(rt, alloc, settings, older, younger, input) {
-        Ok(pair) => answer_pair(alloc, settings, older, younger, &pair, each, view),
+        Ok(pair) => match text_of(alloc, settings, older, younger, &pair, fighters.each, view) {
+            Ok(text) => Ok(Answer::done(alloc, text)),
+            Err(AllocError) => Err(Trouble::memory()),
+        },
         Err(none) => answer_none(alloc, settings, none, view),
     }
 }
 
-fn answer_pair<'f, A: Allocator + Copy>(
-    alloc: A,
-    settings: &Settings,
-    older: Source<'f>,
-    younger: Source<'f>,
-    pair: &Pair<A>,
-    each: bool,
-    view: View,
-) -> Result<Answer<A>, Trouble<'f>>
-    requires { ArePairOf settings.now pair.now }
-    ensures { MatchResult result (IsAnswer settings.now view (IsFought settings.now older.entry younger.entry each view) ⊥) IsReadFault }
-{
-    match text_of(alloc, settings, older, younger, pair, each, view) {
-        Ok(text) => Ok(Answer {
-            status: Status::Done,
-            text,
-            note: Vec::new(alloc),
-        }),
-        Err(AllocError) => Err(Trouble::memory()),
-    }
-}
-
-/// The text of the match of two warriors: its counts, or its rounds.
+/// Plays the match of two warriors, and gives the text of its counts or of its rounds.
 fn text_of<A: Allocator + Copy>(
     alloc: A,
     settings: &Settings,
@@ -143,37 +116,17 @@ fn text_of<A: Allocator + Copy>(
     view: View,
 ) -> Result<Vec<u8, A>, AllocError>
     requires { ArePairOf settings.now pair.now }
-    ensures { IfOk result (λ text. IsFought settings.now older.entry younger.entry each view text.items) }
+    ensures { IfOk result (λ text. IsToldOf settings.now each view (entrant (source_name older.entry) pair.now.older)
+        (entrant (source_name younger.entry) pair.now.younger) text.items) }
 {
     if each {
-        rounds_text(alloc, settings, &pair.older, &pair.younger, view)
-    } else {
-        counts_of(alloc, settings, older, younger, pair, view)
+        return rounds_text(alloc, settings, &pair.older, &pair.younger, view);
     }
-}
-
-/// Plays the match of two warriors, and gives the text of its counts.
-fn counts_of<A: Allocator + Copy>(
-    alloc: A,
-    settings: &Settings,
-    older: Source<'_>,
-    younger: Source<'_>,
-    pair: &Pair<A>,
-    view: View,
-) -> Result<Vec<u8, A>, AllocError>
-    requires { ArePairOf settings.now pair.now }
-    ensures { IfOk result (λ text. IsFought settings.now older.entry younger.entry false view text.items) }
-{
     let mut arena = Arena::new(alloc, settings)?;
     let bout = koth_match::fight(&mut arena, &pair.older, &pair.younger, settings);
-    bout_text(
-        alloc,
-        view,
-        source_name(older),
-        source_name(younger),
-        pair,
-        bout,
-    )
+    let first = source_name(older);
+    let second = source_name(younger);
+    bout_text(alloc, view, first, second, pair, bout)
 }
 
 /// The counts of a match of two warriors whose sources messages call `older` and `younger`: as a line for programs, in
@@ -246,13 +199,10 @@ fn fight_many<R: Files, A: Allocator + Copy, I: Read, O: Write, E: Write>(
         Ok(mine) => meet_found(
             rt, alloc, settings, &mine, fighters, terms, input, output, errors,
         ),
-        Err(none) => deliver(
-            alloc,
-            answer_none(alloc, settings, none, view),
-            false,
-            output,
-            errors,
-        ),
+        Err(none) => {
+            let done = answer_none(alloc, settings, none, view);
+            deliver(alloc, done, false, output, errors)
+        }
     }
 }
 

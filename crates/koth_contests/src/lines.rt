@@ -1,7 +1,8 @@
 //! The lines of a contest: of an opponent, and of all together.
 
 ghost use Rattle.std.specs.Prelude.{◌≡◌, ◌≤◌, ◌++◌, codes, decimal, IfOk, OnOk};
-ghost use Rattle.{koth_text.specs.Columns.padded, koth_contests.specs.{Contest.points_of, Lines.{contest_line, counts_columns, counts_told, entrant, heading, opponent_columns, opponent_told, sum_line, IsContender}}};
+ghost use Rattle.{koth_text.specs.Columns.padded, koth_json.specs.Contest.contender_parts};
+ghost use Rattle.koth_contests.specs.{Contest.points_of, Lines.{contender, contest_line, counts_columns, counts_told, entrant, heading, opponent_columns, opponent_told, sum_line}};
 
 use crate::contest::points_of;
 use koth_commands::put_name;
@@ -15,7 +16,7 @@ use war_types::Warrior;
 
 /// A warrior, with what messages call its source.
 pub(crate) fn contender<'c, A: Allocator>(file: &'c str, warrior: &'c Warrior<A>) -> Contender<'c>
-    ensures { IsContender (entrant file.now warrior.now) result }
+    ensures { contender_parts result ≡ contender (entrant file.now warrior.now) }
 {
     Contender {
         file,
@@ -35,7 +36,8 @@ pub fn contest_line<A: Allocator>(
     tally: Tally,
 ) -> Result<Vec<u8, A>, AllocError>
     requires { points_of tally ≤ u64.MAX }
-    ensures { IfOk result (λ line. line.items ≡ contest_line view mine.entry other.entry tally) }
+    ensures { IfOk result (λ line. line.items
+        ≡ contest_line view (contender_parts mine.entry) (contender_parts other.entry) tally) }
 {
     let mut line = Vec::new(alloc);
     put_contest(&mut line, view, mine, other, tally)?;
@@ -50,7 +52,8 @@ fn put_contest<A: Allocator>(
     tally: Tally,
 ) -> Result<(), AllocError>
     requires { points_of tally ≤ u64.MAX }
-    ensures { OnOk result (line.new.items ≡ line.old.items ++ contest_line view mine.entry other.entry tally) }
+    ensures { OnOk result (line.new.items ≡ line.old.items
+        ++ contest_line view (contender_parts mine.entry) (contender_parts other.entry) tally) }
 {
     match view {
         View::Plain => put_told_contest(line, other, tally),
@@ -68,7 +71,7 @@ pub fn sum_line<A: Allocator>(
     tally: Tally,
 ) -> Result<Vec<u8, A>, AllocError>
     requires { points_of tally ≤ u64.MAX }
-    ensures { IfOk result (λ line. line.items ≡ sum_line view mine.entry count tally) }
+    ensures { IfOk result (λ line. line.items ≡ sum_line view (contender_parts mine.entry) count tally) }
 {
     let mut line = Vec::new(alloc);
     put_all(&mut line, view, mine, count, tally)?;
@@ -83,7 +86,7 @@ fn put_all<A: Allocator>(
     tally: Tally,
 ) -> Result<(), AllocError>
     requires { points_of tally ≤ u64.MAX }
-    ensures { OnOk result (line.new.items ≡ line.old.items ++ sum_line view mine.entry count tally) }
+    ensures { OnOk result (line.new.items ≡ line.old.items ++ sum_line view (contender_parts mine.entry) count tally) }
 {
     match view {
         View::Plain => put_told_sum(line, tally),
@@ -92,7 +95,7 @@ fn put_all<A: Allocator>(
     }
 }
 
-/// The line over those of the opponents: nothing for programs. The error is lack of memory.
+/// The heading of the opponents' lines, which is empty for programs. The error is lack of memory.
 pub(crate) fn heading_line<A: Allocator>(alloc: A, view: View) -> Result<Vec<u8, A>, AllocError>
     ensures { IfOk result (λ line. line.items ≡ heading view) }
 {
@@ -171,7 +174,7 @@ fn put_columns<A: Allocator>(line: &mut Vec<u8, A>, tally: Tally) -> Result<(), 
     put_right(line, 8, points_of(tally))
 }
 
-/// Puts a number at the right of `places` places.
+/// Puts a number at the right end of `places` places.
 pub(crate) fn put_right<A: Allocator>(
     line: &mut Vec<u8, A>,
     places: usize,

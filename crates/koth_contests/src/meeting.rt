@@ -1,7 +1,7 @@
 //! One warrior, mine, against others, one after the other.
 
 ghost use Rattle.std.specs.Prelude.{◌≡◌, ◌+◌, ◌≤◌, length, string_bytes};
-ghost use Rattle.{war_types.specs.Warrior.Fits, koth_contests.specs.{Lines.entrant, Met.{EndsMade, EndsMeetings, IsLineAnswer, Meets, Notes, TellsNone}, Opponents.names_of, Pair.IsNoneOf}};
+ghost use Rattle.{war_types.specs.Warrior.Fits, koth_contests.specs.{Contest.{most_rounds, rounds_in}, Lines.entrant, Met.{EndsMade, EndsMeetings, IsLineAnswer, Meets, Notes, TellsNone}, Opponents.names_of, Pair.IsNoneOf}};
 
 use crate::contest::{added, contest_tally};
 use crate::lines::{contender, contest_line, heading_line, sum_line};
@@ -25,9 +25,9 @@ pub struct Terms {
     pub view: View,
 }
 
-/// Plays mine against the opponents, in their order, and writes a line of each as soon as it was fought, and then one
-/// of all. `file` is what messages call mine's source. Standard error says of an opponent that isn't there why; the
-/// others are fought.
+/// Plays mine against the opponents, in their order. It writes a line for each as soon as that was fought, and at the end
+/// a line of all together. `file` is what messages call mine's source. If an opponent has no warrior, standard error
+/// says why, and the next one is fought.
 pub(crate) fn meet_all<R: Files, A: Allocator + Copy, B: Allocator, I: Read, O: Write, E: Write>(
     rt: &R,
     alloc: A,
@@ -87,7 +87,7 @@ pub(crate) fn meet_all<R: Files, A: Allocator + Copy, B: Allocator, I: Read, O: 
     }
 }
 
-/// Plays mine against an opponent, writes its line and adds its rounds to the sum; or tells why it isn't there.
+/// Plays mine against an opponent, writes its line and adds its rounds to the sum; or tells why it has no warrior.
 fn meet<R: Files, A: Allocator + Copy, B: Allocator, I: Read, O: Write, E: Write>(
     rt: &R,
     alloc: A,
@@ -104,14 +104,10 @@ fn meet<R: Files, A: Allocator + Copy, B: Allocator, I: Read, O: Write, E: Write
 ) -> Status
     requires settings { arena.old.settings ≡ settings.now }
     requires mine { Fits settings.now mine.now }
-    requires won { sum.old.won + 131070 ≤ u64.MAX }
-    requires lost { sum.old.lost + 131070 ≤ u64.MAX }
-    requires tied { sum.old.tied + 131070 ≤ u64.MAX }
+    requires rounds { rounds_in sum.old + most_rounds ≤ u64.MAX }
     ensures meets { Meets settings.now terms (entrant file.now mine.now) (string_bytes opponent.now.name) sum.old sum.new result
         (O.contents output.old) (O.contents output.new) (E.contents errors.old) (E.contents errors.new) }
-    ensures won { sum.new.won ≤ sum.old.won + 131070 }
-    ensures lost { sum.new.lost ≤ sum.old.lost + 131070 }
-    ensures tied { sum.new.tied ≤ sum.old.tied + 131070 }
+    ensures rounds { rounds_in sum.new ≤ rounds_in sum.old + most_rounds }
     ensures settings { arena.new.settings ≡ arena.old.settings }
 {
     match opponent.warrior(rt, alloc, settings, input) {
@@ -131,7 +127,7 @@ fn meet<R: Files, A: Allocator + Copy, B: Allocator, I: Read, O: Write, E: Write
     }
 }
 
-/// Tells why an opponent isn't there. That is a refusal, unless memory ran out.
+/// Tells why an opponent has no warrior. That is a refusal, unless memory ran out.
 fn tell_none<A: Allocator + Copy, E: Write>(
     alloc: A,
     settings: &Settings,
@@ -153,7 +149,7 @@ fn tell_none<A: Allocator + Copy, E: Write>(
     }
 }
 
-/// Says at a terminal which opponent is next, counted from 0, until its line is written over that.
+/// Says in the view for people which opponent is next. `place` counts from 0. The next line is written over it.
 fn tell_progress<A: Allocator, E: Write>(
     alloc: A,
     view: View,
@@ -184,7 +180,7 @@ fn write_line<A: Allocator + Copy, O: Write, E: Write>(
     deliver(alloc, line_answer(alloc, line), false, output, errors)
 }
 
-/// A line as an answer, if there was memory for it.
+/// The answer that has this line, if there was memory for it.
 fn line_answer<'t, A: Allocator + Copy>(
     alloc: A,
     line: Result<Vec<u8, A>, AllocError>,
@@ -192,11 +188,7 @@ fn line_answer<'t, A: Allocator + Copy>(
     ensures { IsLineAnswer line result }
 {
     match line {
-        Ok(text) => Ok(Answer {
-            status: Status::Done,
-            text,
-            note: Vec::new(alloc),
-        }),
+        Ok(text) => Ok(Answer::done(alloc, text)),
         Err(AllocError) => Err(Trouble::memory()),
     }
 }

@@ -13,7 +13,7 @@ use std::rt::Files;
 use std::str;
 use war_types::{Settings, Warrior};
 
-/// Bytes of the names in a folder that are read, each with one more for its end. One that fills them isn't taken.
+/// Bytes that are read of the names in a folder, each with a zero at its end. A folder whose names fill them isn't taken.
 const NAMES_LIMIT: usize = 1_048_576;
 
 /// An opponent, by what messages call its source.

@@ -1,7 +1,7 @@
 //! The command `replay`: from the sources of two warriors to the page of one round of their match.
 
-ghost use Rattle.std.specs.Prelude.{◌≡◌, ◌+◌, ◌-◌, ◌<◌, [], true, false, None, IfErr, IfOk, OnOk, MatchOption, MatchResult, is_some, option_map};
-ghost use Rattle.{war_types.specs.{Settings.settings_of, Warrior.Fits}, koth_commands.specs.{Answer.answer_parts, Streams.streams, Told.TellsWord, Trouble.{IsReadFault, settings_word}}};
+ghost use Rattle.std.specs.Prelude.{◌≡◌, ◌+◌, ◌-◌, ◌<◌, true, false, None, IfErr, IfOk, OnOk, MatchOption, MatchResult, is_some, option_map};
+ghost use Rattle.{war_types.specs.{Settings.settings_of, Warrior.Fits}, koth_commands.specs.{Streams.streams, Told.TellsWord, Trouble.{IsReadFault, settings_word}}};
 ghost use Rattle.koth_contests.specs.{Pair.{ArePairOf, IsAnswer}, Replay.{has_round, may_have, with_page, EndsReplay, EndsReplayUnder, HasNone, IsFirstNumber, IsNumber, IsPage, IsRoundText, IsWatched}};
 
 use crate::pair::{Pair, answer_none, pair_from};
@@ -147,43 +147,19 @@ fn answer_round<A: Allocator + Copy>(
 {
     let found = number_of(alloc, settings, &pair.older, &pair.younger, round)?;
     match found {
-        Some(number) => answer_page(alloc, settings, pair, number),
-        None => answer_nothing(alloc, settings, round),
+        Some(number) => {
+            let page = round_text(alloc, settings, &pair.older, &pair.younger, number)?;
+            Ok(Answer::done(alloc, page))
+        }
+        None => {
+            let note = sentence(alloc, settings, round)?;
+            Ok(Answer {
+                status: Status::Refused,
+                text: Vec::new(alloc),
+                note,
+            })
+        }
     }
-}
-
-fn answer_page<A: Allocator + Copy>(
-    alloc: A,
-    settings: &Settings,
-    pair: &Pair<A>,
-    number: u32,
-) -> Result<Answer<A>, AllocError>
-    requires pair { ArePairOf settings.now pair.now }
-    requires round { has_round settings.now number ≡ true }
-    ensures { IfOk result (IsAnswer settings.now View.Plain
-        (IsRoundText settings.now pair.now.older pair.now.younger number) ⊥) }
-{
-    let text = round_text(alloc, settings, &pair.older, &pair.younger, number)?;
-    Ok(Answer {
-        status: Status::Done,
-        text,
-        note: Vec::new(alloc),
-    })
-}
-
-fn answer_nothing<A: Allocator + Copy>(
-    alloc: A,
-    settings: &Settings,
-    round: Round,
-) -> Result<Answer<A>, AllocError>
-    ensures { IfOk result (λ answer. answer ≡ answer_parts Status.Refused [] answer.note) }
-{
-    let note = sentence(alloc, settings, round)?;
-    Ok(Answer {
-        status: Status::Refused,
-        text: Vec::new(alloc),
-        note,
-    })
 }
 
 /// The number of the round that is asked for, counted from 1; `None` if no round ended so.
@@ -230,7 +206,7 @@ fn counted_from_1(place: Option<u16>) -> Option<u32>
     place.map(|place| u32::from(place) + 1)
 }
 
-/// Says that no round ended so.
+/// The sentence that no round ended so.
 fn sentence<A: Allocator + Copy>(
     alloc: A,
     settings: &Settings,
@@ -289,7 +265,7 @@ pub fn round_text<A: Allocator + Copy, B: Allocator, C: Allocator>(
     round_page(alloc, older, younger, place, &replay)
 }
 
-/// The same round, counted from 0.
+/// The place of a round, counted from 0. `round` counts from 1.
 fn place_of(settings: &Settings, round: u32) -> u16
     requires { has_round settings.now round ≡ true }
     ensures place { result ≡ round - 1 }

@@ -1,8 +1,8 @@
 //! The rounds of a match, one after the other: how each went, and the first that ended in some way.
 
 ghost use Rattle.std.specs.Prelude.{◌≡◌, ◌++◌, IfOk, OnOk};
-ghost use Rattle.{war_types.specs.Warrior.Fits, koth_json.specs.Contest.{round_line as round_object}};
-ghost use Rattle.koth_contests.specs.Rounds.{ends_columns, ends_told, outcome_name, round_columns, round_fields, round_line, round_of, round_told, rounds_heading, side_name, IsEach, IsFirst};
+ghost use Rattle.war_types.specs.Warrior.Fits;
+ghost use Rattle.koth_contests.specs.Rounds.{ends_columns, ends_told, outcome_name, round_columns, round_line, round_of, round_told, rounds_heading, side_name, IsEach, IsFirst};
 
 use crate::lines::put_right;
 use koth_json::Round;
@@ -104,7 +104,7 @@ pub fn first_round<A: Allocator, B: Allocator, C: Allocator>(
     None
 }
 
-/// The line over those of the rounds: nothing for programs.
+/// The heading of the rounds' lines, which is empty for programs.
 fn rounds_heading(view: View) -> &'static str
     ensures { result.now ≡ rounds_heading view }
 {
@@ -130,7 +130,7 @@ fn put_round<A: Allocator>(
 
 /// Puts the line of JSON of a round.
 fn put_object<A: Allocator>(text: &mut Vec<u8, A>, played: Played) -> Result<(), AllocError>
-    ensures { OnOk result (text.new.items ≡ text.old.items ++ round_object (round_fields played)) }
+    ensures { OnOk result (text.new.items ≡ text.old.items ++ round_line View.Json played) }
 {
     let round = Round {
         number: played.number,

@@ -1,10 +1,10 @@
 -- What stands for bytes in a string, read back as the crate `json` reads a string: those bytes.
 use Rattle.std.proofs.Common.{◌≡◌, ℕ, zero, suc, ◌+◌, ◌/◌, ◌%◌, ◌^◌, ◌<◌, ◌≤◌, ◌==◌, inl, inr, ◌⊎◌, Bool, true, false, cond, List, [], ◌∷◌, ◌++◌, length, Option, Some, None, option_and_then, codes, decimal, refl, sym, ap, ◌∙◌, subst, append_assoc, arith}
-use Rattle.std.proofs.lemmas.Bool.{agree_below_at, cases_eq, cases_lt, eqb-false, eqb-true, false≢true, le-ltb, lt-ltb, ne_eqb}
+use Rattle.std.proofs.lemmas.Bool.{agree_below_at, cases_eq, cases_lt, eqb-true, false≢true, le-ltb, lt-ltb, ne_eqb}
 use Rattle.std.specs.{Char.{digit_char, encode_utf8}, List.{flat_map}}
 use Rattle.json.specs.Text.{code_unit, content, is_high_surrogate, is_low_surrogate, plain, prepend, short_escape}
 use Rattle.json.specs.Token as token
-use Rattle.json.specs.Lex.{Lexeme, Mode, between, in_string, lex, lex_byte, operator, space, other, comma, colon, string_token, Place, after_value, begins_colon, place_token, punctuate}
+use Rattle.json.specs.Lex.{Lexeme, between, in_string, lex, lex_byte, operator, space, other, comma, colon, string_token, Place, after_value, begins_colon, place_token, punctuate}
 use Rattle.json.specs.Json as json
 use Rattle.json.specs.Word.{ends_word, is_operator, is_space, word}
 use Rattle.json.proofs.Printed.Numbers.{in_word-ended, lex-number}

@@ -12,5 +12,3 @@ pub mod Hill
 pub mod Reply
 -- The lines of `check`, and of a source that is refused.
 pub mod Finding
-
--- The line of a command that was not carried out.

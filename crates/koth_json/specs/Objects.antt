@@ -1,5 +1,5 @@
 -- An object of JSON on one line. No value is an object or an array, so that a line is a row of a table.
-use Rattle.std.specs.{Prelude.{ℕ, Bool, true, false, List, [], ◌∷◌, ◌++◌, codes, decimal}, List.flat_map}
+use Rattle.std.specs.{Prelude.{ℕ, Bool, true, false, List, ◌++◌, codes, decimal}, List.flat_map}
 use Rattle.koth_json.specs.{declared.key.Key.Key, Keys.key_text, Strings.string_text}
 
 -- a string for these bytes, a number, or true or false

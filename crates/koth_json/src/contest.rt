@@ -1,7 +1,7 @@
 //! The lines of `fight`.
 
 ghost use Rattle.std.specs.Prelude.{◌≡◌, ◌++◌, OnOk};
-ghost use Rattle.koth_json.specs.{Contest.{contender_fields, course_fields, draw_fields, match_line, opponent_fields, round_line, sum_line, tally_fields}, Objects.further_text};
+ghost use Rattle.koth_json.specs.{Contest.{contender_fields, contender_parts, course_fields, draw_fields, match_line, opponent_fields, round_line, sum_line, tally_fields}, Objects.further_text};
 
 use crate::key::Key;
 use crate::object::{begin, end, put_number, put_text};
@@ -25,7 +25,8 @@ pub fn put_match<A: Allocator>(
     tally: Tally,
     points: u64,
 ) -> Result<(), AllocError>
-    ensures { OnOk result (lines.new.items ≡ lines.old.items ++ match_line mine.entry other.entry tally points) }
+    ensures { OnOk result (lines.new.items ≡ lines.old.items
+        ++ match_line (contender_parts mine.entry) (contender_parts other.entry) tally points) }
 {
     begin(lines, "match")?;
     put_contender(lines, mine)?;
@@ -43,7 +44,8 @@ pub fn put_sum<A: Allocator>(
     tally: Tally,
     points: u64,
 ) -> Result<(), AllocError>
-    ensures { OnOk result (lines.new.items ≡ lines.old.items ++ sum_line mine.entry opponents tally points) }
+    ensures { OnOk result (lines.new.items ≡ lines.old.items
+        ++ sum_line (contender_parts mine.entry) opponents tally points) }
 {
     begin(lines, "sum")?;
     put_contender(lines, mine)?;
@@ -57,7 +59,8 @@ fn put_contender<A: Allocator>(
     line: &mut Vec<u8, A>,
     contender: Contender<'_>,
 ) -> Result<(), AllocError>
-    ensures { OnOk result (line.new.items ≡ line.old.items ++ further_text (contender_fields contender.entry)) }
+    ensures { OnOk result (line.new.items ≡ line.old.items
+        ++ further_text (contender_fields (contender_parts contender.entry))) }
 {
     put_text(line, Key::File, contender.file.as_bytes())?;
     put_text(line, Key::Name, contender.name.bytes())?;
@@ -68,7 +71,8 @@ fn put_opponent<A: Allocator>(
     line: &mut Vec<u8, A>,
     opponent: Contender<'_>,
 ) -> Result<(), AllocError>
-    ensures { OnOk result (line.new.items ≡ line.old.items ++ further_text (opponent_fields opponent.entry)) }
+    ensures { OnOk result (line.new.items ≡ line.old.items
+        ++ further_text (opponent_fields (contender_parts opponent.entry))) }
 {
     put_text(line, Key::OpponentFile, opponent.file.as_bytes())?;
     put_text(line, Key::OpponentName, opponent.name.bytes())?;
@@ -102,7 +106,8 @@ pub struct Round<'r> {
 
 /// Puts the line of a round. The error is lack of memory.
 pub fn put_round<A: Allocator>(lines: &mut Vec<u8, A>, round: Round<'_>) -> Result<(), AllocError>
-    ensures { OnOk result (lines.new.items ≡ lines.old.items ++ round_line round.entry) }
+    ensures { OnOk result (lines.new.items ≡ lines.old.items ++ round_line round.entry.number round.entry.seed
+        round.entry.position round.entry.first.now round.entry.outcome.now round.entry.turns) }
 {
     begin(lines, "round")?;
     put_draw(lines, round)?;
@@ -112,7 +117,8 @@ pub fn put_round<A: Allocator>(lines: &mut Vec<u8, A>, round: Round<'_>) -> Resu
 
 /// Puts which round it is, and where the second warrior is loaded.
 fn put_draw<A: Allocator>(line: &mut Vec<u8, A>, round: Round<'_>) -> Result<(), AllocError>
-    ensures { OnOk result (line.new.items ≡ line.old.items ++ further_text (draw_fields round.entry)) }
+    ensures { OnOk result (line.new.items ≡ line.old.items
+        ++ further_text (draw_fields round.entry.number round.entry.seed round.entry.position)) }
 {
     put_number(line, Key::Round, u64::from(round.number))?;
     put_number(line, Key::Seed, u64::from(round.seed))?;
@@ -121,7 +127,8 @@ fn put_draw<A: Allocator>(line: &mut Vec<u8, A>, round: Round<'_>) -> Result<(),
 
 /// Puts how a round went.
 fn put_course<A: Allocator>(line: &mut Vec<u8, A>, round: Round<'_>) -> Result<(), AllocError>
-    ensures { OnOk result (line.new.items ≡ line.old.items ++ further_text (course_fields round.entry)) }
+    ensures { OnOk result (line.new.items ≡ line.old.items
+        ++ further_text (course_fields round.entry.first.now round.entry.outcome.now round.entry.turns)) }
 {
     put_text(line, Key::First, round.first.as_bytes())?;
     put_text(line, Key::Outcome, round.outcome.as_bytes())?;

@@ -1,6 +1,6 @@
 //! The lines of `show`.
 
-ghost use Rattle.std.specs.{Prelude.{◌≡◌, ◌+◌, ◌++◌, length, IfOk, OnOk}, List.zip};
+ghost use Rattle.std.specs.Prelude.{◌≡◌, ◌+◌, ◌++◌, length, IfOk, OnOk};
 ghost use Rattle.koth_hill.specs.Rows.{row_parts, rows_parts};
 ghost use Rattle.koth_json.specs.{Hill.{bound_fields, bout_line, bout_lines, hill_line, hill_text, kept_lines, matches_text, row_line, row_lines, size_fields, standing_fields}, Objects.further_text};
 

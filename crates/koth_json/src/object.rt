@@ -1,6 +1,6 @@
 //! An object of JSON on one line, put field by field.
 
-ghost use Rattle.std.specs.Prelude.{◌≡◌, ◌++◌, codes, decimal, OnOk};
+ghost use Rattle.std.specs.Prelude.{◌≡◌, ◌++◌, codes, OnOk};
 ghost use Rattle.koth_json.specs.{Objects.{Value, field_text, further_field, truth_text, type_field}, Keys.key_text, Strings.string_text};
 
 use crate::key::Key;

@@ -1,4 +1,4 @@
--- The match of two, or of many.
+-- The match of two is told, or the matches of one against many.
 use Rattle.{std.proofs.Common.{inl, inr}, koth_contests.proofs.Answered.delivered_ends}
 use Rattle.koth_contests.proofs.fight.fight_under.Goals as goal
 

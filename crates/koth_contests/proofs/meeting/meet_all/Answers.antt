@@ -1,8 +1,8 @@
 -- Each meeting adds its opponent, and the sum ends it.
-use Rattle.{std.proofs.Common.{◌∙◌, ◌+◌, ◌<◌, ◌≤◌, length, ap, arith, subst, subst₂, sym}, mars_core.specs.Round.Round, koth_commands.specs.declared.status.Status.Status}
+use Rattle.{std.proofs.Common.{◌≡◌, ◌∙◌, ◌+◌, ◌<◌, ◌≤◌, IfOk, length, ap, arith, subst, subst₂, sym}, mars_core.specs.Round.Round, koth_commands.specs.declared.status.Status.Status}
 use Rattle.koth_contests.specs.{Lines.{contender, entrant, heading, sum_line}, Opponents.names_of}
 use Rattle.koth_contests.proofs.Meetings.{NotesSo, SoFar, all_met, as_many, kept_notes, meeting_failed, named_here, no_arena, none_so_far, not_begun, notes_kept, one_fought, one_missing}
-use Rattle.koth_contests.proofs.{Meetings.{some_before, some_more, sum_failed}, Written.{line_of, of_sum}}
+use Rattle.koth_contests.proofs.{Meetings.{some_before, some_more, sum_failed}, Written.line_of}
 use Rattle.koth_contests.proofs.meeting.meet_all.Goals as goal
 use Rattle.koth_contests.proofs.meeting.meet_all.Goals.{in-Done-meet, in-Refused}
 
@@ -21,9 +21,7 @@ loop-place-init g c =
       told = kept_notes c.args.terms.view _ _ first.1;
       few = omega arith;
       settings = ap (λ (r : Round). r.settings) c.in-Ok.ensures;
-      won = omega arith;
-      lost = omega arith;
-      tied = omega arith;
+      rounds = omega arith;
     }
 
 pub returns-in_default-meet : goal.returns-in_default-meet
@@ -56,9 +54,7 @@ loop-place-preserved g c =
             (notes_kept terms.view c.loop-place.status _ _ _ _ c.loop-place.invariant.told c.tell_progress.ensures w.in-Done-meet.ensures.meets.4);
         few = omega (arith, w.fought-is, c.loop-place.invariant.few);
         settings = c.meet.ensures.settings ∙ c.loop-place.invariant.settings;
-        won = omega (arith, c.meet.ensures.won, c.loop-place.invariant.won);
-        lost = omega (arith, c.meet.ensures.lost, c.loop-place.invariant.lost);
-        tied = omega (arith, c.meet.ensures.tied, c.loop-place.invariant.tied);
+        rounds = omega (arith, c.meet.ensures.rounds, c.loop-place.invariant.rounds);
       }
       | in-Refused w ↦ record {
         met = subst₂ (λ t n. SoFar s terms mine files (c.loop-place.place + 1) t n c.meet.new.sum o q) (sym w.status-is) (sym w.fought-is)
@@ -68,9 +64,7 @@ loop-place-preserved g c =
             (some_more terms.view c.loop-place.status _ _ _ _ c.loop-place.invariant.told c.tell_progress.ensures w.in-Refused.ensures.meets.2);
         few = omega (arith, w.fought-is, c.loop-place.invariant.few);
         settings = c.meet.ensures.settings ∙ c.loop-place.invariant.settings;
-        won = omega (arith, c.meet.ensures.won, c.loop-place.invariant.won);
-        lost = omega (arith, c.meet.ensures.lost, c.loop-place.invariant.lost);
-        tied = omega (arith, c.meet.ensures.tied, c.loop-place.invariant.tied);
+        rounds = omega (arith, c.meet.ensures.rounds, c.loop-place.invariant.rounds);
       }
     ]
 
@@ -82,7 +76,7 @@ returns-in-Done-write_line g c =
     let fought = c.loop-place.fought in
     let sum = c.loop-place.sum in
     let past : length files ≤ c.loop-place.place = omega (arith, as_many c.args.opponents.now, c.loop-place-test.false) in
-    let told = of_sum c.sum_line-line.result view mine c.contender.result sum c.contender.ensures fought c.sum_line-line.ensures in
+    let told = subst (λ m. IfOk c.sum_line-line.result (λ l. l.items ≡ sum_line view m fought sum)) c.contender.ensures c.sum_line-line.ensures in
     all_met _ _ mine files c.loop-place.place c.loop-place.status fought sum _ _ _ _ _ _ c.loop-place.invariant.met c.loop-place.invariant.told past
     (line_of _ _ _ _ c.sum_line-line.result (sum_line view (contender mine) fought sum) Status.Done told c.in-Done-write_line.ensures)
 
@@ -92,7 +86,7 @@ returns g c =
     let view = c.args.terms.view in
     let fought = c.loop-place.fought in
     let sum = c.loop-place.sum in
-    let told = of_sum c.sum_line-line.result view mine c.contender.result sum c.contender.ensures fought c.sum_line-line.ensures in
+    let told = subst (λ m. IfOk c.sum_line-line.result (λ l. l.items ≡ sum_line view m fought sum)) c.contender.ensures c.sum_line-line.ensures in
     sum_failed _ _ mine (names_of c.args.opponents.now) c.loop-place.place c.loop-place.status fought sum _ _ _ _ _ _ c.loop-place.invariant.met
     c.loop-place.invariant.told c.write_line-2.result c.in_default-write_line-2.not-Done
     (line_of _ _ _ _ c.sum_line-line.result (sum_line view (contender mine) fought sum) c.write_line-2.result told c.write_line-2.ensures)

@@ -1,5 +1,5 @@
--- The opponents so far were met.
-use Rattle.{std.proofs.Common.{◌≡◌, ◌*◌, ◌≤◌}, koth_contests.specs.{Lines.entrant, Opponents.names_of}, koth_contests.proofs.Meetings.{NotesSo, SoFar}}
+-- The first `place` opponents were met.
+use Rattle.{std.proofs.Common.{◌≡◌, ◌*◌, ◌≤◌}, koth_contests.specs.{Contest.{most_rounds, rounds_in}, Lines.entrant, Opponents.names_of}, koth_contests.proofs.Meetings.{NotesSo, SoFar}}
 use Rattle.koth_contests.proofs.meeting.meet_all.Given as goal
 
 abbrev pub invariant-loop-place : goal.invariant-loop-place
@@ -8,7 +8,5 @@ invariant-loop-place g l = record {
   told : NotesSo l.terms.view l.status (g.E.Write.contents l.fn.errors) (g.E.Write.contents l.errors);
   few : l.fought ≤ l.place;
   settings : l.arena.settings ≡ l.settings;
-  won : l.sum.won ≤ 131070 * l.place;
-  lost : l.sum.lost ≤ 131070 * l.place;
-  tied : l.sum.tied ≤ 131070 * l.place;
+  rounds : rounds_in l.sum ≤ most_rounds * l.place;
 }

@@ -1,4 +1,4 @@
--- What is written is some text.
+-- For people, some text is written.
 use Rattle.{std.proofs.Common.{refl, subst, sym}, koth_commands.proofs.Told.in_part, koth_contests.specs.Met.Notes}
 use Rattle.koth_contests.proofs.meeting.tell_progress.Goals as goal
 

@@ -1,4 +1,4 @@
--- The sources that the words so far stand for.
+-- The opponents have the names that the first words stand for.
 use Rattle.{std.proofs.Common.take, koth_contests.specs.Opponents.{AreFiles, names_of}}
 use Rattle.koth_contests.proofs.opponents.opponents_of.Given as goal
 

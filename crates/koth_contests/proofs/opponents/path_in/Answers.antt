@@ -1,4 +1,4 @@
--- What stands behind the folder's name.
+-- The path begins with the folder's name.
 use Rattle.std.proofs.lemmas.Result.{IfOk-weaker}
 use Rattle.koth_contests.proofs.opponents.path_in.Goals as goal
 

@@ -1,4 +1,4 @@
--- One more, and all of them.
+-- One file more, and all of them at the end.
 use Rattle.koth_contests.proofs.Found.{all_in, none_in, one_in}
 use Rattle.koth_contests.proofs.opponents.put_found.Goals as goal
 

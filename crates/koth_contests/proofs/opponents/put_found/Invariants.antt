@@ -1,4 +1,4 @@
--- Those so far are in the folder.
+-- The files of the first names were put.
 use Rattle.{koth_contests.specs.Opponents.names_of, koth_contests.proofs.Found.InFolder}
 use Rattle.koth_contests.proofs.opponents.put_found.Given as goal
 

@@ -1,4 +1,4 @@
--- One that is in the folder.
+-- The path that is put is in the folder.
 use Rattle.{std.proofs.{Common.{subst, sym}, lemmas.Result.on_ok_weaker}, koth_contests.specs.Opponents.IsIn}
 use Rattle.koth_contests.proofs.opponents.put_in.Goals as goal
 

@@ -1,4 +1,4 @@
--- The refusal is that of the source.
+-- The source is refused.
 use Rattle.koth_contests.proofs.Answered.{refused_answers}
 use Rattle.koth_contests.proofs.pair.answer_none.Goals as goal
 

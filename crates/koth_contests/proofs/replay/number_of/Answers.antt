@@ -1,4 +1,4 @@
--- The number that is asked for, or that of the first round that ended so.
+-- The number that is asked for, or the number of the first round that ended so.
 use Rattle.{std.proofs.Common.{IfOk, subst, sym}, koth_contests.specs.Replay.IsNumber, koth_contests.proofs.Pages.asked_number}
 use Rattle.koth_contests.proofs.replay.number_of.Goals as goal
 

@@ -1,4 +1,4 @@
--- There may be no match.
+-- Where a source gives no warrior, there is no match.
 use Rattle.{std.proofs.Common.is_some, koth_words.specs.declared.requests.View.View, koth_contests.specs.Replay.{HasNone, IsPage}, koth_contests.proofs.Answered.answers_none}
 use Rattle.koth_contests.proofs.replay.replay_under.Goals as goal
 

@@ -1,4 +1,4 @@
--- No round so far ended so.
+-- None of the first rounds ended so.
 use Rattle.{std.proofs.Common.{◌≡◌, ℕ, ◌<◌, ◌≢◌}, koth_match.specs.Match.round_outcome}
 use Rattle.koth_contests.proofs.rounds.first_round.Given as goal
 

@@ -1,4 +1,4 @@
--- The text has the rounds so far.
+-- The text has the first rounds.
 use Rattle.{std.proofs.Common.{◌≡◌, ◌++◌}, std.specs.List.flat_map}
 use Rattle.koth_contests.specs.Rounds.{round_line, rounds_before, rounds_heading}
 use Rattle.koth_contests.proofs.rounds.rounds_text.Given as goal

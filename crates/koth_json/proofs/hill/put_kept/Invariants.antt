@@ -1,4 +1,4 @@
--- The lines so far are those of the warriors so far.
+-- The lines of the first warriors' matches are put.
 use Rattle.std.proofs.Common.{◌≡◌, ◌++◌, take}
 use Rattle.std.specs.List.{flat_map, zip}
 use Rattle.koth_json.specs.Hill.{bout_lines}

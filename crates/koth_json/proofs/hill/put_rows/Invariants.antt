@@ -1,4 +1,4 @@
--- The lines so far are those of the rows so far.
+-- The lines of the first rows are put.
 use Rattle.{std.proofs.Common.{◌≡◌, ◌++◌, take}, koth_hill.specs.Rows.rows_parts}
 use Rattle.std.specs.List.{enumerate_from, flat_map}
 use Rattle.koth_json.specs.Hill.{row_line}

@@ -1,4 +1,4 @@
--- The bytes so far are put.
+-- The text of the first bytes is put.
 use Rattle.{std.proofs.Common.{◌≡◌, ◌++◌, take}, std.specs.List.flat_map, koth_json.specs.Strings.byte_text}
 use Rattle.koth_json.proofs.string.put_bytes.Given as goal
 

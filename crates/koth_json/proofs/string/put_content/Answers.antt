@@ -1,5 +1,5 @@
--- The bytes up to one that is no UTF-8, and at last those of a text.
-use Rattle.{std.proofs.Common.{◌≡◌, ◌-◌, ◌++◌, length, take, drop, sym, ap, ◌∙◌}, std.proofs.lemmas.List.take_rest, std.specs.List.flat_map}
+-- A step puts the bytes up to one that is no UTF-8, and the end puts the rest.
+use Rattle.{std.proofs.Common.{◌-◌, ◌++◌, length, take, drop, sym, ap, ◌∙◌}, std.proofs.lemmas.List.take_rest, std.specs.List.flat_map}
 use Rattle.koth_json.{specs.Strings.{byte_text, mended}, proofs.Mended.{mended-text, put-spoilt}}
 use Rattle.koth_json.proofs.string.put_content.Goals as goal
 

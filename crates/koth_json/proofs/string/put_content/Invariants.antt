@@ -1,4 +1,4 @@
--- What is put, with what stands for the bytes that are left, is what stands for all of them.
+-- The line, with the text of the bytes that are left, is the line with the text of all of them.
 use Rattle.{std.proofs.Common.{◌≡◌, ◌++◌, length}, std.specs.List.flat_map, koth_json.specs.Strings.{byte_text, mended}}
 use Rattle.koth_json.proofs.string.put_content.Given as goal
 
