@@ -24,9 +24,7 @@ module _ (s : RawSettings) (view : View) (IsTold : List ℕ → Type 0) (IsNothi
   none_as Status.Done text note answers = absurd answers.0
   none_as Status.Refused text note (inl refused) = inl refused
   none_as Status.Refused text note (inr nothing) = absurd nothing.0
-  none_as Status.WordFault text note answers = absurd answers
-  none_as Status.StreamFault text note answers = absurd answers
-  none_as Status.NoMemory text note answers = absurd answers
+  none_as status text note answers = absurd answers
 
   pub answers_none : (r : Result AnswerParts Trouble) → MatchResult r (IsAnswer s view (λ t. ⊥) ⊥) IsReadFault → MatchResult r (IsAnswer s view IsTold IsNothing) IsReadFault
   answers_none (Ok a) is = none_as a.status a.text a.note is
@@ -42,18 +40,14 @@ module _ (s : RawSettings) (view : View) (IsTold : List ℕ → Type 0) (IsNothi
     whole_ends Status.Done text note (told, none) whole part = (text, told, whole, nothing_written e f (subst (WritesPart e f) none part))
     whole_ends Status.Refused text note (inl refused) whole part = (inl (text, refused, whole), (note, part))
     whole_ends Status.Refused text note (inr (nothing, none)) whole part = (inr (nothing, stays o p text none whole), (note, part))
-    whole_ends Status.WordFault text note answers whole part = absurd answers
-    whole_ends Status.StreamFault text note answers whole part = absurd answers
-    whole_ends Status.NoMemory text note answers whole part = absurd answers
+    whole_ends status text note answers whole part = absurd answers
 
     part_ends : (status : Status) (text note : List ℕ) → AnswersAs s view IsTold IsNothing status text note → WritesPart o p text
         → TellsWord (fault_word Fault.Stream) e f → EndsMatch s view IsTold IsNothing Status.StreamFault o p e f
     part_ends Status.Done text note (told, none) part word = (inr (inl (text, told, part)), word)
     part_ends Status.Refused text note (inl refused) part word = (inr (inr (text, refused, part)), word)
     part_ends Status.Refused text note (inr (nothing, none)) part word = (inl (nothing_written o p (subst (WritesPart o p) none part)), word)
-    part_ends Status.WordFault text note answers part word = absurd answers
-    part_ends Status.StreamFault text note answers part word = absurd answers
-    part_ends Status.NoMemory text note answers part word = absurd answers
+    part_ends status text note answers part word = absurd answers
 
     trouble_ends : (trouble : Trouble) (status : Status) → IsReadFault trouble → Keeps o p → Tells trouble status e f
         → EndsMatch s view IsTold IsNothing status o p e f

@@ -6,7 +6,7 @@ use Rattle.{war_types.specs.{declared.settings.RawSettings.RawSettings}, koth_te
 use Rattle.koth_commands.specs.{Told.{WritesSome}, Trouble.{Tells, no_memory}, declared.{status.Status.Status, trouble.{Trouble.Trouble}}}
 use Rattle.koth_commands.proofs.Told.{behind, in_longer, keeps_some, kept_part, nothing_more, writes_more}
 use Rattle.koth_contests.specs.{Contest.{added, contest_tally, no_rounds, tally}, Lines.{Entrant, contender, heading, sum_line}, Opponents.names_of, declared.{meeting.Terms.Terms, opponents.Opponent.Opponent}}
-use Rattle.koth_contests.specs.Met.{EndsLine, EndsMeetings, IsBegun, IsContest, IsMet, Meets, Met, Notes}
+use Rattle.koth_contests.specs.Met.{EndsLine, EndsMeetings, IsBegun, IsContest, IsMet, Meets, Met, Notes, WritesBegun}
 use Rattle.koth_contests.specs.Met.{all_fought, contest_text, count_of, is_fought, met, met_count, met_line, met_lines, met_sum, tally_against}
 
 -- how it ends if no opponent comes after those that were met
@@ -245,51 +245,38 @@ module _ (s : RawSettings) (terms : Terms) (mine : Entrant) (files : List (List 
   pub all_met : length files ≤ place → EndsLine (sum_line terms.view (contender mine) fought sum) Status.Done p q f g → EndsMeetings s terms mine files status o q e g
   all_met past (written, kept) = ends_as past written kept (all_fought so_far.opponents) refl so_far.ends
 
+  sum_part : WritesPart p q (sum_line terms.view (contender mine) fought sum) → WritesBegun s terms mine files o q
+  sum_part part =
+      let ms = so_far.opponents in
+      let line = sum_line terms.view (contender mine) (met_count ms) (met_sum s terms.both mine ms) in (
+        contest_text s terms mine ms,
+        begun s terms mine files place ms so_far.named so_far.come,
+        subst (WritesPart o q) (append_assoc (heading terms.view) (met_lines s terms mine ms) line)
+            (behind o p q (lines_of s terms mine ms) line so_far.written (subst (WritesPart p q) sum_is part)),
+      )
+
   -- the last line was not written, or only a part of it
   pub sum_failed : (end : Status) → (end ≡ Status.Done → ⊥) → EndsLine (sum_line terms.view (contender mine) fought sum) end p q f g → EndsMeetings s terms mine files end o q e g
   sum_failed Status.Done other ends = absurd (other refl)
-  sum_failed Status.Refused other ends = absurd ends
-  sum_failed Status.WordFault other ends = absurd ends
-  sum_failed Status.StreamFault other (part, told) =
-      let ms = so_far.opponents in
-      let line = sum_line terms.view (contender mine) (met_count ms) (met_sum s terms.both mine ms) in
-      let of_sum = subst (WritesPart p q) sum_is part in (
-        (
-          contest_text s terms mine ms,
-          begun s terms mine files place ms so_far.named so_far.come,
-          subst (WritesPart o q) (append_assoc (heading terms.view) (met_lines s terms mine ms) line)
-              (behind o p q (lines_of s terms mine ms) line so_far.written of_sum),
-        ),
-        (f, some_so_far terms.view status e f notes, told),
-      )
-  sum_failed Status.NoMemory other (kept, told) =
-      let ms = so_far.opponents in (
-        (
-          contest_text s terms mine ms,
-          begun s terms mine files place ms so_far.named so_far.come,
-          part_of_text s terms mine ms o q (lines_part s terms mine ms o p q so_far.written kept),
-        ),
-        (f, some_so_far terms.view status e f notes, told),
-      )
+  sum_failed Status.StreamFault other (part, told) = (sum_part part, (f, some_so_far terms.view status e f notes, told))
+  sum_failed Status.NoMemory other (kept, told) = (sum_part (kept_part p q _ kept), (f, some_so_far terms.view status e f notes, told))
+  sum_failed end other ends = absurd ends
 
--- the heading was not written, or only a part of it
-pub not_begun : (s : RawSettings) (terms : Terms) (mine : Entrant) (files : List (List ℕ)) (end : Status) (o p e f : Option (List ℕ))
-    → (end ≡ Status.Done → ⊥) → EndsLine (heading terms.view) end o p e f → EndsMeetings s terms mine files end o p e f
-not_begun s terms mine files Status.Done o p e f other ends = absurd (other refl)
-not_begun s terms mine files Status.Refused o p e f other ends = absurd ends
-not_begun s terms mine files Status.WordFault o p e f other ends = absurd ends
-not_begun s terms mine files Status.StreamFault o p e f other (part, told) = (
-  (
+module _ (s : RawSettings) (terms : Terms) (mine : Entrant) (files : List (List ℕ)) where
+  heading_part : (o p : Option (List ℕ)) → WritesPart o p (heading terms.view) → WritesBegun s terms mine files o p
+  heading_part o p part = (
     contest_text s terms mine [],
     begun s terms mine files 0 [] refl (All-nil (IsMet s)),
     in_longer o p (heading terms.view) (sum_line terms.view (contender mine) 0 (tally 0 0 0)) part,
-  ),
-  (e, keeps_some e e (Keeps-refl e), told),
-)
-not_begun s terms mine files Status.NoMemory o p e f other (kept, told) = (
-  (contest_text s terms mine [], begun s terms mine files 0 [] refl (All-nil (IsMet s)), kept_part o p (contest_text s terms mine []) kept),
-  (e, keeps_some e e (Keeps-refl e), told),
-)
+  )
+
+  -- the heading was not written, or only a part of it
+  pub not_begun : (end : Status) (o p e f : Option (List ℕ)) → (end ≡ Status.Done → ⊥) → EndsLine (heading terms.view) end o p e f
+      → EndsMeetings s terms mine files end o p e f
+  not_begun Status.Done o p e f other ends = absurd (other refl)
+  not_begun Status.StreamFault o p e f other (part, told) = (heading_part o p part, (e, keeps_some e e (Keeps-refl e), told))
+  not_begun Status.NoMemory o p e f other (kept, told) = (heading_part o p (kept_part o p _ kept), (e, keeps_some e e (Keeps-refl e), told))
+  not_begun end o p e f other ends = absurd ends
 
 -- memory ran out before the heading was written
 pub no_arena : (s : RawSettings) (terms : Terms) (mine : Entrant) (files : List (List ℕ)) (trouble : Trouble) (end : Status) (o e f : Option (List ℕ))

@@ -1,5 +1,5 @@
 -- The number of the round that is shown, and an answer whose page is put into a file.
-use Rattle.std.proofs.Common.{◌≡◌, ℕ, ◌+◌, ◌<◌, ◌≤◌, Bool, true, false, ◌&&◌, List, Option, None, Some, option_map, refl, sym, ap₂, subst, arith, le-leb}
+use Rattle.std.proofs.Common.{◌≡◌, ℕ, ◌+◌, ◌<◌, ◌≤◌, Bool, true, ◌&&◌, List, Option, None, Some, option_map, refl, sym, ap₂, subst, arith, le-leb}
 use Rattle.{war_types.specs.{Warrior.WarriorParts, declared.settings.RawSettings.RawSettings}, mars_core.specs.declared.round.Outcome.Outcome}
 use Rattle.koth_commands.specs.{Answer.AnswerParts, declared.status.Status.Status}
 use Rattle.koth_words.specs.declared.requests.{Round.Round, View.View}
@@ -30,15 +30,7 @@ module _ (s : RawSettings) (round : Round) where
   paged_as : (named : Bool) (status : Status) (text note : List ℕ) → AnswersAs s View.Plain (IsWatched s round) (HasNone s round) status text note
       → AnswersAs s View.Plain (IsPage s round named) (HasNone s round) status (page_left named status text) note
   paged_as true Status.Done text note (page, none) = (((text, page), refl), none)
-  paged_as true Status.Refused text note answers = answers
-  paged_as true Status.WordFault text note answers = absurd answers
-  paged_as true Status.StreamFault text note answers = absurd answers
-  paged_as true Status.NoMemory text note answers = absurd answers
-  paged_as false Status.Done text note answers = answers
-  paged_as false Status.Refused text note answers = answers
-  paged_as false Status.WordFault text note answers = absurd answers
-  paged_as false Status.StreamFault text note answers = absurd answers
-  paged_as false Status.NoMemory text note answers = absurd answers
+  paged_as named status text note answers = answers
 
   pub paged : (named : Bool) (a put : AnswerParts) → put ≡ with_page named a → IsAnswer s View.Plain (IsWatched s round) (HasNone s round) a
       → IsAnswer s View.Plain (IsPage s round named) (HasNone s round) put

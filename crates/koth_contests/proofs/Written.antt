@@ -53,18 +53,15 @@ module _ (s : RawSettings) (terms : Terms) (mine : Entrant) (file : List ℕ) (s
   pub meets_with : (other : WarriorParts) (status : Status) → IsWarriorOf s other → new ≡ added sum (contest_tally s terms.both mine.warrior other)
       → EndsLine (line_against s terms mine file (Some other)) status o p e f → Meets s terms mine file sum new status o p e f
   meets_with other Status.Done comes adds (written, kept) = (other, comes, adds, written, kept)
-  meets_with other Status.Refused comes adds ends = absurd ends
-  meets_with other Status.WordFault comes adds ends = absurd ends
   meets_with other Status.StreamFault comes adds (part, told) = (other, comes, part, told)
   meets_with other Status.NoMemory comes adds ends = ends
+  meets_with other status comes adds ends = absurd ends
 
   -- it has no warrior
   pub meets_none : (status : Status) → new ≡ sum → Keeps o p → TellsNone status e f → Meets s terms mine file sum new status o p e f
-  meets_none Status.Done same kept told = absurd told
   meets_none Status.Refused same kept told = (same, kept, told)
-  meets_none Status.WordFault same kept told = absurd told
-  meets_none Status.StreamFault same kept told = absurd told
   meets_none Status.NoMemory same kept told = (kept, told)
+  meets_none status same kept told = absurd told
 
 -- the trouble for which an opponent has no warrior was told, and memory ran out
 pub told_none : (trouble : Trouble) (status : Status) (e f : Option (List ℕ)) → IsReadFault trouble → Tells trouble status e f → status ≡ Status.NoMemory

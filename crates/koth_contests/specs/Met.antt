@@ -88,16 +88,18 @@ Notes View.Json e f = Keeps e f
 abbrev pub TellsAfter : List ℕ → Option (List ℕ) → Option (List ℕ) → Type 0
 TellsAfter word e f = (mid : Option (List ℕ)) × WritesSome e mid × TellsWord word mid f
 
+-- a part of the text of mine against the first files of these names was written
+abbrev pub WritesBegun : RawSettings → Terms → Entrant → List (List ℕ) → Option (List ℕ) → Option (List ℕ) → Type 0
+WritesBegun s terms mine files o p = (text : List ℕ) × IsBegun s terms mine files text × WritesPart o p text
+
 -- how mine against these files ends, by what the output and then standard error hold before and after: all of the text is written, and why
 -- opponents have no warrior; or a part of the text, since the output failed or memory ran out
 abbrev pub EndsMeetings : RawSettings → Terms → Entrant → List (List ℕ) → Status → Option (List ℕ) → Option (List ℕ) → Option (List ℕ) → Option (List ℕ) → Type 0
 EndsMeetings s terms mine files Status.Done o p e f = ((text : List ℕ) × IsContest s terms mine files true text × Appends o p text) × Notes terms.view e f
 EndsMeetings s terms mine files Status.Refused o p e f = ((text : List ℕ) × IsContest s terms mine files false text × Appends o p text) × WritesSome e f
 EndsMeetings s terms mine files Status.WordFault o p e f = ⊥
-EndsMeetings s terms mine files Status.StreamFault o p e f =
-    ((text : List ℕ) × IsBegun s terms mine files text × WritesPart o p text) × TellsAfter (fault_word Fault.Stream) e f
-EndsMeetings s terms mine files Status.NoMemory o p e f =
-    ((text : List ℕ) × IsBegun s terms mine files text × WritesPart o p text) × TellsAfter (fault_word Fault.Memory) e f
+EndsMeetings s terms mine files Status.StreamFault o p e f = WritesBegun s terms mine files o p × TellsAfter (fault_word Fault.Stream) e f
+EndsMeetings s terms mine files Status.NoMemory o p e f = WritesBegun s terms mine files o p × TellsAfter (fault_word Fault.Memory) e f
 
 -- how the meeting with one opponent ends: its line is written and its rounds are added; or it has no warrior, and standard error says why;
 -- or a part of its line is written; or memory ran out
@@ -112,11 +114,9 @@ Meets s terms mine file sum new Status.NoMemory o p e f = Keeps o p × TellsWord
 
 -- what standard error gets about an opponent that has no warrior
 abbrev pub TellsNone : Status → Option (List ℕ) → Option (List ℕ) → Type 0
-TellsNone Status.Done e f = ⊥
 TellsNone Status.Refused e f = WritesSome e f
-TellsNone Status.WordFault e f = ⊥
-TellsNone Status.StreamFault e f = ⊥
 TellsNone Status.NoMemory e f = TellsWord (fault_word Fault.Memory) e f
+TellsNone status e f = ⊥
 
 -- the line as an answer, if there was memory for it
 abbrev pub IsLineAnswer : {A E : Type 0} → Result (Vec ℕ A) E → Result AnswerParts Trouble → Type 0
@@ -126,10 +126,9 @@ IsLineAnswer (Err e) answer = answer ≡ Err no_memory
 -- how the writing of a line ends: all of it is written and nothing is reported, or a part of it, or none of it for lack of memory
 abbrev pub EndsLine : List ℕ → Status → Option (List ℕ) → Option (List ℕ) → Option (List ℕ) → Option (List ℕ) → Type 0
 EndsLine text Status.Done o p e f = Appends o p text × Keeps e f
-EndsLine text Status.Refused o p e f = ⊥
-EndsLine text Status.WordFault o p e f = ⊥
 EndsLine text Status.StreamFault o p e f = WritesPart o p text × TellsWord (fault_word Fault.Stream) e f
 EndsLine text Status.NoMemory o p e f = Keeps o p × TellsWord (fault_word Fault.Memory) e f
+EndsLine text status o p e f = ⊥
 
 -- how the writing of a line ends that was made before, if there was memory for that
 abbrev pub EndsMade : {A E : Type 0} → Result (Vec ℕ A) E → Status → Option (List ℕ) → Option (List ℕ) → Option (List ℕ) → Option (List ℕ) → Type 0

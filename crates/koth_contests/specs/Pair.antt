@@ -23,9 +23,7 @@ IsRefused s view text = (fault : AsmFault) × IsFaultOf s fault × SaysRefused v
 abbrev pub AnswersAs : RawSettings → View → (List ℕ → Type 0) → Type 0 → Status → List ℕ → List ℕ → Type 0
 AnswersAs s view IsTold IsNothing Status.Done text note = IsTold text × (note ≡ [])
 AnswersAs s view IsTold IsNothing Status.Refused text note = IsRefused s view text ⊎ (IsNothing × (text ≡ []))
-AnswersAs s view IsTold IsNothing Status.WordFault text note = ⊥
-AnswersAs s view IsTold IsNothing Status.StreamFault text note = ⊥
-AnswersAs s view IsTold IsNothing Status.NoMemory text note = ⊥
+AnswersAs s view IsTold IsNothing status text note = ⊥
 
 abbrev pub IsAnswer : RawSettings → View → (List ℕ → Type 0) → Type 0 → AnswerParts → Type 0
 IsAnswer s view IsTold IsNothing a = AnswersAs s view IsTold IsNothing a.status a.text a.note
