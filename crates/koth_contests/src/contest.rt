@@ -28,10 +28,8 @@ pub fn contest_tally<A: Allocator, B: Allocator, C: Allocator>(
     let _rounds = settings.rounds();
     let first = Tally::of_older(fight(arena, mine, other, settings));
     if both {
-        added(
-            first,
-            Tally::of_younger(fight(arena, other, mine, settings)),
-        )
+        let second = Tally::of_younger(fight(arena, other, mine, settings));
+        added(first, second)
     } else {
         first
     }

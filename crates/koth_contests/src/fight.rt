@@ -228,16 +228,9 @@ fn meet_found<R: Files, A: Allocator + Copy, I: Read, O: Write, E: Write>(
     if opponents.len() > MOST_OPPONENTS {
         return Trouble::memory().tell(alloc, errors);
     }
+    let file = source_name(fighters.older);
+    let found = opponents.as_slice();
     meet_all(
-        rt,
-        alloc,
-        settings,
-        source_name(fighters.older),
-        mine,
-        opponents.as_slice(),
-        terms,
-        input,
-        output,
-        errors,
+        rt, alloc, settings, file, mine, found, terms, input, output, errors,
     )
 }

@@ -61,18 +61,9 @@ pub(crate) fn meet_all<R: Files, A: Allocator + Copy, B: Allocator, I: Read, O: 
     let mut fought: u64 = 0;
     for place in 0..opponents.len() {
         tell_progress(alloc, terms.view, place, opponents.len(), errors);
+        let next = &opponents[place];
         match meet(
-            rt,
-            alloc,
-            settings,
-            &mut arena,
-            file,
-            mine,
-            &opponents[place],
-            terms,
-            &mut sum,
-            input,
-            output,
+            rt, alloc, settings, &mut arena, file, mine, next, terms, &mut sum, input, output,
             errors,
         ) {
             Status::Done => fought += 1,

@@ -220,13 +220,8 @@ fn put_file<A: Allocator + Copy>(
         Ok(text) => put_in(alloc, opponents, folder, text, Place::File),
         Err(_) => {
             let shown = shown_bytes(alloc, name)?;
-            put_in(
-                alloc,
-                opponents,
-                folder,
-                shown.as_str(),
-                Place::Nowhere(Reason::NoText),
-            )
+            let nowhere = Place::Nowhere(Reason::NoText);
+            put_in(alloc, opponents, folder, shown.as_str(), nowhere)
         }
     }
 }

@@ -179,18 +179,10 @@ fn put_columns<A: Allocator>(text: &mut Vec<u8, A>, played: Played) -> Result<()
 fn put_ends_columns<A: Allocator>(text: &mut Vec<u8, A>, played: Played) -> Result<(), AllocError>
     ensures { OnOk result (text.new.items ≡ text.old.items ++ ends_columns played) }
 {
-    put_padded(
-        text,
-        Alignment::Right,
-        7,
-        side_name(played.first).as_bytes(),
-    )?;
-    put_padded(
-        text,
-        Alignment::Right,
-        6,
-        outcome_name(played.outcome).as_bytes(),
-    )?;
+    let first = side_name(played.first).as_bytes();
+    put_padded(text, Alignment::Right, 7, first)?;
+    let outcome = outcome_name(played.outcome).as_bytes();
+    put_padded(text, Alignment::Right, 6, outcome)?;
     put_right(text, 9, u64::from(played.turns))?;
     text.extend_from_slice(b"\n")
 }
