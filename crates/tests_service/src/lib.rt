@@ -7,6 +7,7 @@
 //! - `compare`: what is compared, each by a function;
 //! - `sessions`: what a session answers, and how it ends if a stream, the device or memory fails;
 //! - `peers`: sessions of several peers at once; `beside`: those that are served while a submission is under way; `put_off`: their sources;
+//!   `scripts`: what is done in both;
 //! - `services`: services over sockets that do what a test wants, and over those of the system.
 //!
 //! What they expect was counted by hand. A test here must not show what a contract could say instead.
@@ -22,6 +23,8 @@ mod compare;
 mod peers;
 #[cfg(test)]
 mod put_off;
+#[cfg(test)]
+mod scripts;
 #[cfg(test)]
 mod services;
 #[cfg(test)]

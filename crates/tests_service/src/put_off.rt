@@ -1,152 +1,98 @@
 //! Sources of other peers while a submission is under way: those that are refused, and those that are put off, on a hill of two.
 
-use crate::beside::{connect_three, step_on};
-use crate::calls::{blank_in, empty_hill, empty_hill_on};
+use crate::calls::{blank_in, empty_hill_on};
 use crate::compare::expect_number;
-use crate::peers::{come, connect, ended, expect_step, room_for, send, serve};
+use crate::peers::{come, connect, room_for, send, serve};
+use crate::scripts::{Act, connect_three, follow, step_on};
 use koth_session::{Judge, PeerEnd, Peers, Step};
 use sector_disk::Device;
 use std::alloc::Global;
 use std::process::Abort;
 use tests_fixtures::Refusing;
 
-/// Three peers on an empty hill act so.
-#[derive(Clone, Copy)]
-enum Script {
-    Refused,
-    PutOff,
-    PutOffTwice,
-    Spent,
-}
-
-fn follow(rt: &(impl Abort + AllocGlobal), script: Script) {
-    let mut judge = Judge::new(empty_hill(rt));
-    let mut peers = room_for(rt, rt.alloc(), 3);
-    connect_three(rt, &mut peers);
-    match script {
-        Script::Refused => refuse_beside(rt, &mut peers, &mut judge),
-        Script::PutOff => put_off(rt, &mut peers, &mut judge),
-        Script::PutOffTwice => put_off_twice(rt, &mut peers, &mut judge),
-        Script::Spent => spend_beside(rt, &mut peers, &mut judge),
-    }
-    drop(peers);
-    drop(judge);
-}
-
 /// Sources of other peers that give no warrior are refused while a submission is under way: each peer's next one in its next turn.
+const REFUSED_BESIDE: [Act; 13] = [
+    Act::Come(0, "SUBMIT\nMOV 0,1\n.\n"),
+    Act::Serve(Step::Served(0)),
+    Act::Come(0, "SUBMIT\nJMP 0\n.\n"),
+    Act::Steps(&[Step::Stepped(0)]),
+    Act::Come(1, "SUBMIT\nJMP\n.\nSUBMIT\n.\n"),
+    Act::Come(2, "SUBMIT\nJMP\n.\n"),
+    Act::Steps(&[Step::Served(1), Step::Served(2), Step::Stepped(0)]),
+    Act::Steps(&[Step::Served(1)]),
+    Act::Send(0, "PLACED 1 1 0\n"),
+    Act::Send(1, "REFUSED 1 MissingOperand\nREFUSED 0 Empty\n"),
+    Act::Send(2, "REFUSED 1 MissingOperand\n"),
+    Act::Steps(&[Step::Served(0), Step::Nobody]),
+    Act::Send(0, "PLACED 2 2 2\n"),
+];
+
 #[test]
 fn refused_beside(rt: HostRuntime) {
-    follow(&rt, Script::Refused);
-}
-
-fn refuse_beside<D: Device>(
-    rt: &impl Abort,
-    peers: &mut Peers<Global>,
-    judge: &mut Judge<D, Global>,
-) {
-    come(rt, peers, 0, "SUBMIT\nMOV 0,1\n.\n");
-    serve(rt, peers, judge, Step::Served(0));
-    come(rt, peers, 0, "SUBMIT\nJMP 0\n.\n");
-    step_on(rt, peers, judge, &[Step::Stepped(0)]);
-    come(rt, peers, 1, "SUBMIT\nJMP\n.\nSUBMIT\n.\n");
-    come(rt, peers, 2, "SUBMIT\nJMP\n.\n");
-    let beside = [
-        Step::Served(1),
-        Step::Served(2),
-        Step::Stepped(0),
-        Step::Served(1),
-    ];
-    step_on(rt, peers, judge, &beside);
-    send(rt, peers, 0, "PLACED 1 1 0\n");
-    let refusals = "REFUSED 1 MissingOperand\nREFUSED 0 Empty\n";
-    send(rt, peers, 1, refusals);
-    send(rt, peers, 2, "REFUSED 1 MissingOperand\n");
-    step_on(rt, peers, judge, &[Step::Served(0), Step::Nobody]);
-    send(rt, peers, 0, "PLACED 2 2 2\n");
+    follow(&rt, &REFUSED_BESIDE);
 }
 
 /// A source that gives a warrior is put off while the submission of another peer is under way, once, and judged at the hill after it. The next
 /// command of its peer is carried out in its turn.
+const PUT_OFF_BESIDE: [Act; 15] = [
+    Act::Come(0, "SUBMIT\nMOV 0,1\n.\nSUBMIT\nJMP 0\n.\n"),
+    Act::Serve(Step::Served(0)),
+    Act::Steps(&[Step::Stepped(0)]),
+    Act::Come(1, "SUBMIT\nDAT 0,0\n.\nSUBMIT\nJMP\n.\n"),
+    Act::Come(2, "\n\n"),
+    Act::Steps(&[Step::PutOff(1), Step::Served(2), Step::Stepped(0)]),
+    Act::Steps(&[Step::Served(2), Step::Served(0)]),
+    Act::Send(0, "PLACED 1 1 0\nPLACED 2 2 2\n"),
+    Act::Send(1, ""),
+    Act::Come(0, "SUBMIT\nJMP\n.\n"),
+    Act::Steps(&[Step::Stepped(1), Step::Served(0)]),
+    Act::Send(0, "REFUSED 1 MissingOperand\n"),
+    Act::Serve(Step::Served(1)),
+    Act::Steps(&[Step::Served(1), Step::Nobody]),
+    Act::Send(1, "FELL 3 0\nREFUSED 1 MissingOperand\n"),
+];
+
 #[test]
 fn put_off_beside(rt: HostRuntime) {
-    follow(&rt, Script::PutOff);
-}
-
-fn put_off<D: Device>(rt: &impl Abort, peers: &mut Peers<Global>, judge: &mut Judge<D, Global>) {
-    come(rt, peers, 0, "SUBMIT\nMOV 0,1\n.\nSUBMIT\nJMP 0\n.\n");
-    serve(rt, peers, judge, Step::Served(0));
-    step_on(rt, peers, judge, &[Step::Stepped(0)]);
-    come(rt, peers, 1, "SUBMIT\nDAT 0,0\n.\nSUBMIT\nJMP\n.\n");
-    come(rt, peers, 2, "\n\n");
-    let beside = [
-        Step::PutOff(1),
-        Step::Served(2),
-        Step::Stepped(0),
-        Step::Served(2),
-        Step::Served(0),
-    ];
-    step_on(rt, peers, judge, &beside);
-    send(rt, peers, 0, "PLACED 1 1 0\nPLACED 2 2 2\n");
-    send(rt, peers, 1, "");
-    come(rt, peers, 0, "SUBMIT\nJMP\n.\n");
-    let own = [Step::Stepped(1), Step::Served(0)];
-    step_on(rt, peers, judge, &own);
-    send(rt, peers, 0, "REFUSED 1 MissingOperand\n");
-    serve(rt, peers, judge, Step::Served(1));
-    step_on(rt, peers, judge, &[Step::Served(1), Step::Nobody]);
-    send(rt, peers, 1, "FELL 3 0\nREFUSED 1 MissingOperand\n");
+    follow(&rt, &PUT_OFF_BESIDE);
 }
 
 /// A source that was put off isn't assembled again until no submission is under way, over two submissions of other peers.
+const PUT_OFF_BESIDE_TWO: [Act; 12] = [
+    Act::Come(2, "SUBMIT\nMOV 0,1\n.\n"),
+    Act::Steps(&[Step::Stepped(2)]),
+    Act::Come(1, "SUBMIT\nDAT 0,0\n.\n"),
+    Act::Steps(&[Step::PutOff(1)]),
+    Act::Come(0, "SUBMIT\nJMP 0\n.\n"),
+    Act::Steps(&[Step::Served(2), Step::Stepped(0), Step::Stepped(0)]),
+    Act::Steps(&[Step::Served(0), Step::Stepped(1)]),
+    Act::Serve(Step::Served(1)),
+    Act::Steps(&[Step::Nobody]),
+    Act::Send(0, "PLACED 2 2 2\n"),
+    Act::Send(1, "FELL 3 0\n"),
+    Act::Send(2, "PLACED 1 1 0\n"),
+];
+
 #[test]
 fn put_off_beside_two(rt: HostRuntime) {
-    follow(&rt, Script::PutOffTwice);
-}
-
-fn put_off_twice<D: Device>(
-    rt: &impl Abort,
-    peers: &mut Peers<Global>,
-    judge: &mut Judge<D, Global>,
-) {
-    come(rt, peers, 2, "SUBMIT\nMOV 0,1\n.\n");
-    step_on(rt, peers, judge, &[Step::Stepped(2)]);
-    come(rt, peers, 1, "SUBMIT\nDAT 0,0\n.\n");
-    step_on(rt, peers, judge, &[Step::PutOff(1)]);
-    come(rt, peers, 0, "SUBMIT\nJMP 0\n.\n");
-    let next = [
-        Step::Served(2),
-        Step::Stepped(0),
-        Step::Stepped(0),
-        Step::Served(0),
-        Step::Stepped(1),
-    ];
-    step_on(rt, peers, judge, &next);
-    serve(rt, peers, judge, Step::Served(1));
-    step_on(rt, peers, judge, &[Step::Nobody]);
-    send(rt, peers, 0, "PLACED 2 2 2\n");
-    send(rt, peers, 1, "FELL 3 0\n");
-    send(rt, peers, 2, "PLACED 1 1 0\n");
+    follow(&rt, &PUT_OFF_BESIDE_TWO);
 }
 
 /// A source whose assembly spends its steps while the submission of another peer is under way ends its session, and that submission goes on.
+const SPENT_BESIDE: [Act; 8] = [
+    Act::Come(0, "SUBMIT\nMOV 0,1\n.\n"),
+    Act::Steps(&[Step::Stepped(0)]),
+    Act::Come(1, "SUBMIT\nMOV 0,1\n.\n"),
+    Act::StepWithin(0, Step::Served(1)),
+    Act::Ended(1, PeerEnd::StepsSpent),
+    Act::Steps(&[Step::Served(0), Step::Nobody]),
+    Act::Send(0, "PLACED 1 1 0\n"),
+    Act::Send(1, ""),
+];
+
 #[test]
 fn spent_beside(rt: HostRuntime) {
-    follow(&rt, Script::Spent);
-}
-
-fn spend_beside<D: Device>(
-    rt: &impl Abort,
-    peers: &mut Peers<Global>,
-    judge: &mut Judge<D, Global>,
-) {
-    come(rt, peers, 0, "SUBMIT\nMOV 0,1\n.\n");
-    step_on(rt, peers, judge, &[Step::Stepped(0)]);
-    come(rt, peers, 1, "SUBMIT\nMOV 0,1\n.\n");
-    expect_step(rt, peers.serve_next(0, judge), Step::Served(1));
-    ended(rt, peers, 1, Some(PeerEnd::StepsSpent));
-    step_on(rt, peers, judge, &[Step::Served(0), Step::Nobody]);
-    send(rt, peers, 0, "PLACED 1 1 0\n");
-    send(rt, peers, 1, "");
+    follow(&rt, &SPENT_BESIDE);
 }
 
 /// The nine growths of an assembly are refused in turn while the submission of another peer is under way: each time the source is answered
