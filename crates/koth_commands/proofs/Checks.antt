@@ -1,9 +1,9 @@
 -- Sources that are checked, one after another.
-use Rattle.std.proofs.Common.{◌≡◌, ◌∙◌, ◌<◌, ◌+◌, ◌++◌, ◌⊎◌, ℕ, Bool, true, false, true≢false, ◌||◌, List, [], ◌∷◌, Option, None, Some, Result, Ok, Err, MatchResult, All, inl, inr, ap, append-nil, append_assoc, get_or, length, map, refl, subst, sym, take, ap₂}
+use Rattle.std.proofs.Common.{◌≡◌, ◌∙◌, ◌<◌, ◌+◌, ◌++◌, ℕ, Bool, true, false, true≢false, ◌||◌, List, [], ◌∷◌, Option, None, Some, Result, Ok, Err, MatchResult, inl, inr, ap, append-nil, get_or, length, map, refl, subst, sym, take, ap₂}
 use Rattle.std.proofs.{lemmas.List.{take_more, get_or-map, map-append, length-map}, lemmas.List.Concat.flat_map-append, lemmas.List.Elements.{All-append, All-cons, All-nil}, lemmas.List.Folds.list_any-append, KnownBytes.{Appends-nil, Appends-trans}}
 use Rattle.{std.specs.{Io.KnownBytes.Appends, List.flat_map, Prelude.is_ok}, war_types.specs.declared.settings.RawSettings.RawSettings}
-use Rattle.koth_commands.specs.{Answer.{AnswerParts, Delivers}, Check.{Breaks, Checks, EndsCheckUnder, IsChecked, IsPart, Part, is_over, is_unread, status_over}, Report.{Manner, AreLines, is_refused, status_by}, Status.worse}
-use Rattle.koth_commands.specs.{Told.{TellsWord, apart_text}, Trouble.{IsReadFault, fault_status, fault_word}, declared.{status.Status.Status, trouble.Fault.Fault, trouble.Trouble.Trouble}}
+use Rattle.koth_commands.specs.{Answer.{AnswerParts, Delivers}, Check.{Breaks, Checks, EndsCheckUnder, IsChecked, IsPart, Part, is_over, is_unread, status_over}, Report.{Manner, is_refused, status_by}, Status.worse}
+use Rattle.koth_commands.specs.{Told.{TellsWord, apart_text}, Trouble.{IsReadFault, fault_status, fault_word}, declared.{status.Status.Status, trouble.Trouble.Trouble}}
 use Rattle.koth_commands.proofs.Told.{nothing_more}
 
 -- ---- one source more

@@ -1,5 +1,5 @@
 -- The lines of a report, one after another.
-use Rattle.std.proofs.{Common.{◌≡◌, ◌∙◌, ◌<◌, ◌+◌, ◌++◌, ◌||◌, ◌&&◌, ℕ, List, [], ◌∷◌, Bool, true, false, Some, Result, Ok, Err, ap, ap₂, append-nil, append_assoc, get_or, length, map, refl, subst, sym, take}, lemmas.List.map_more}
+use Rattle.std.proofs.{Common.{◌≡◌, ◌∙◌, ◌<◌, ◌+◌, ◌++◌, ◌||◌, ◌&&◌, ℕ, List, [], ◌∷◌, Bool, false, Some, Result, Ok, Err, ap, ap₂, append-nil, append_assoc, get_or, length, map, refl, subst, sym, take}, lemmas.List.map_more}
 use Rattle.{std.specs.Prelude.is_err, war_types.specs.{Warrior.WarriorParts, declared.fault.AsmFault.AsmFault}, redcode_diagnosis.specs.Told.{Tells, TellsAll}, redcode_asm.specs.Assembly.assembly, redcode_warnings.specs.Warnings.Noted}
 use Rattle.{war_types.specs.declared.settings.RawSettings.RawSettings, koth_commands.specs.{Answer.answer_parts, declared.status.Status.Status}}
 use Rattle.koth_commands.specs.Report.{Manner, AreLines, IsAnswered, IsNoteOf, TellsFound, found_fault, found_warning, has_any, is_refused, status_by, warnings_if}
@@ -61,7 +61,6 @@ module _ {A B : Type 0} (fault : A → AsmFault) (noted : B → Noted) (s : RawS
         status = ends ∙ ap (status_by false) (refuses ∙ refused_is is also tells told);
         report = record {
           faults = map fault found;
-          tells = tells;
           all = all;
           lines = subst (AreLines IsLine _) (sym split) (lines_both IsLine _ _ fault_text warning_text first then_told);
         };

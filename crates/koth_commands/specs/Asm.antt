@@ -1,5 +1,5 @@
 -- What the command `asm` writes, and how it ends.
-use Rattle.std.specs.{Prelude.{◌≡◌, ℕ, Bool, true, false, Option, IfSome, List, [], Result, Ok, Err}, Io.KnownBytes.{Consumes, Keeps}}
+use Rattle.std.specs.{Prelude.{◌≡◌, ℕ, Bool, Option, IfSome, List, [], Result, Ok, Err}, Io.KnownBytes.Consumes}
 use Rattle.war_types.specs.{Warrior.WarriorParts, declared.fault.AsmFault.AsmFault, declared.settings.RawSettings.RawSettings, declared.settings.SettingsFault.SettingsFault}
 use Rattle.{redcode_asm.specs.{Assembly.assembly, LoadText.load_text}, koth_text.specs.Refusal.refusal_line}
 use Rattle.koth_commands.specs.{Answer.{AnswerParts, EndsAs, IsGiven}, Streams.{From, Streams, Takes}, Trouble.IsReadFault}

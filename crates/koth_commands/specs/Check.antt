@@ -61,7 +61,7 @@ Breaks s how status o p e f =
     ((status ≡ Status.StreamFault) × ((name : List ℕ) × (source : List ℕ) × (text : List ℕ) × IsReport s how name source text × WritesPart o p text) × TellsWord (fault_word Fault.Stream) e f)
     ⊎ ((status ≡ Status.NoMemory) × Keeps o p × TellsWord (fault_word Fault.Memory) e f)
 
--- so many first ones were checked, and that happened at the next
+-- the first `count` sources were checked, and at the next one the output failed or memory ran out
 pub record Stops (s : RawSettings) (how : Manner) (names : List (List ℕ)) (status : Status) (o p e f : Option (List ℕ)) : Type 0 where
   pub count : ℕ
   pub begun : Status

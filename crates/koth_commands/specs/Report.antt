@@ -1,7 +1,7 @@
 -- The report of a source: its faults, and its warnings if they are asked for.
-use Rattle.std.specs.Prelude.{◌≡◌, ◌⊎◌, ℕ, Bool, true, false, ◌||◌, ◌&&◌, if◌then◌else◌, Option, None, Some, List, [], ◌∷◌, ◌++◌, Result, codes, is_err, map}
+use Rattle.std.specs.Prelude.{◌≡◌, ◌⊎◌, ℕ, Bool, true, false, ◌||◌, ◌&&◌, if◌then◌else◌, Option, None, Some, List, [], ◌∷◌, ◌++◌, codes, is_err, map}
 use Rattle.{war_types.specs.{declared.fault.AsmFault.AsmFault, declared.settings.RawSettings.RawSettings, Fault.kind_name}, redcode_asm.specs.{Assembly.assembly, Within.MaySpend}}
-use Rattle.{redcode_lines.specs.Place.{IsPlaceIn, line_text}, redcode_diagnosis.specs.{Told.{Tells, TellsAll}, Text.{Begins, said_heading}}}
+use Rattle.{redcode_lines.specs.Place.{IsPlaceIn, line_text}, redcode_diagnosis.specs.{Told.TellsAll, Text.{Begins, said_heading}}}
 use Rattle.redcode_warnings.specs.{Kind.{kind_name as warning_name}, Warnings.{Noted, warnings_of}}
 use Rattle.{koth_json.specs.{Finding.finding_line, declared.finding.{Finding.Finding, Severity.Severity}}, koth_words.specs.declared.{serving.TheConstants.STEPS, requests.{Checked.Checked, Form.Form}}}
 use Rattle.koth_commands.specs.{Answer.AnswerParts, Name.shown_name, declared.status.Status.Status}
@@ -73,7 +73,6 @@ warnings_if asked source = if asked then warnings_of source else []
 -- what is written of a source on the output: its faults, none if it assembles, and else all from the one that the assembler answers on; then its warnings
 pub record IsReport (s : RawSettings) (how : Manner) (name source text : List ℕ) : Type 0 where
   pub faults : List AsmFault
-  pub tells : Tells faults (assembly s source)
   pub all : TellsAll s source faults (assembly s source)
   pub lines : AreLines (TellsFound how.form name source)
       (map found_fault faults ++ map found_warning (warnings_if how.warnings source)) text

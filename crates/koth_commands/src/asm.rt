@@ -1,6 +1,6 @@
 //! The command `asm`: from a source to load text.
 
-ghost use Rattle.std.specs.Prelude.{◌≡◌, IfErr, IfOk, MatchResult, Ok};
+ghost use Rattle.std.specs.Prelude.{◌≡◌, MatchResult, Ok};
 ghost use Rattle.{war_types.specs.Settings.settings_of, redcode_asm.specs.Assembly.assembly};
 ghost use Rattle.koth_commands.specs.{Asm.{EndsAsmFrom, IsDoneFrom, IsAssembled}, Streams.{is_input, streams}, Trouble.no_memory};
 

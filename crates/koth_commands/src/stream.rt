@@ -1,6 +1,6 @@
 //! Reading into a buffer and writing a text, with every byte in the contract.
 
-ghost use Rattle.std.specs.{Prelude.{◌≡◌, ◌<◌, ◌≤◌, ℕ, List, length, take, IfOk, OnOk, OnErr}, Io.KnownBytes.{Appends, Consumes, IsAtEnd}};
+ghost use Rattle.std.specs.{Prelude.{◌<◌, ◌≤◌, ℕ, List, length, take, IfOk, OnOk, OnErr}, Io.KnownBytes.{Appends, Consumes, IsAtEnd}};
 ghost use Rattle.koth_text.specs.Written.{WritesPart};
 
 use crate::cause::{Reason, reason_of};
