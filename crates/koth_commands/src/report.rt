@@ -217,7 +217,7 @@ fn slow_note<A: Allocator + Copy>(
     let mut note = Vec::new(alloc);
     if is_slow(alloc, settings, source) {
         note.extend_from_slice(name.as_bytes())?;
-        note.extend_from_slice(b": over 500000 steps: a service doesn't assemble it (--steps)\n")?;
+        note.extend_from_slice(b": over 250000 steps: a service doesn't assemble it (--steps)\n")?;
     }
     Ok(note)
 }

@@ -150,7 +150,7 @@ fn serve_command<'a>(heap: Global) -> Result<Command<'a>, AllocError>
     let help =
         "Most peers of one address served at once, 1 to 1024; further ones are refused [default: no limit]";
     let command = with_arg(command, ranged(heap, "peers-per-address", 1, 1024, help));
-    let help = "Steps that the assembly of a source may take, 0 to 4294967295 [default: 500000]";
+    let help = "Steps that the assembly of a source may take, 0 to 4294967295 [default: 250000]";
     let command = with_arg(command, option(heap, "steps", help));
     let help =
         "Address to listen at, IPv4 or IPv6; whoever reaches it can submit [default: 127.0.0.1]";

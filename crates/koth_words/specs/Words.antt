@@ -247,7 +247,7 @@ Asks entered (Serve settings service) = (entered.0 ≡ codes "serve") × (settin
     × (service.port ≡ number_below 65536 0 (one_of (codes "port") entered.1))
     × (service.peers ≡ number_or 64 (one_of (codes "peers") entered.1))
     × (service.peers_per_address ≡ number_given 4294967296 (one_of (codes "peers-per-address") entered.1))
-    × (service.steps ≡ number_or 500000 (one_of (codes "steps") entered.1))
+    × (service.steps ≡ number_or 250000 (one_of (codes "steps") entered.1))
     × IsAddress (first_of (codes "listen") entered.1) service.listen
     × (service.connections ≡ number_given 4294967296 (one_of (codes "connections") entered.1))
     × (service.http ≡ number_given 4294967296 (one_of (codes "http") entered.1))

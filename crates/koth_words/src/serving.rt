@@ -15,7 +15,7 @@ use std::net::IpAddr;
 const PEERS: u32 = 64;
 
 /// Steps that the assembly of a source may take in a service, unless `--steps` is given.
-pub const STEPS: u32 = 500_000;
+pub const STEPS: u32 = 250_000;
 
 /// The address to listen at, unless `--listen` is given.
 const THIS_MACHINE: &str = "127.0.0.1";
@@ -30,7 +30,7 @@ pub(crate) fn service_named<'w>(
     ensures peers { IfOk result (λ service. service.peers ≡ number_or 64 (one_of (codes "peers") (rows_of (found_of matches.now)))) }
     ensures peers_per_address { IfOk result (λ service. service.peers_per_address
         ≡ number_given 4294967296 (one_of (codes "peers-per-address") (rows_of (found_of matches.now)))) }
-    ensures steps { IfOk result (λ service. service.steps ≡ number_or 500000 (one_of (codes "steps") (rows_of (found_of matches.now)))) }
+    ensures steps { IfOk result (λ service. service.steps ≡ number_or 250000 (one_of (codes "steps") (rows_of (found_of matches.now)))) }
     ensures listen { IfOk result (λ service. IsAddress (first_of (codes "listen") (rows_of (found_of matches.now))) service.listen) }
     ensures connections { IfOk result (λ service. service.connections
         ≡ number_given 4294967296 (one_of (codes "connections") (rows_of (found_of matches.now)))) }
