@@ -22,7 +22,7 @@ table_of_parts hill table more matrix items table_is more_is matrix_is is =
 
 -- the matrix for people, by the width of its columns
 module _ (hill : Kept) (width : ℕ) (columns : List ℕ) (columns_are : columns ≡ matches_view hill) (width_is : width ≡ longest_line columns) where
-  wide : Bool
+  abbrev wide : Bool
   wide = nat_lt terminal_width (longest_line (matches_view hill))
 
   same_width : width ≡ longest_line (matches_view hill)

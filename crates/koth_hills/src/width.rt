@@ -10,8 +10,8 @@ pub(crate) const TERMINAL_WIDTH: usize = 80;
 pub(crate) fn longest_line(text: &[u8]) -> usize
     ensures { result ≡ longest_line text.now }
 {
-    let mut longest = 0;
-    let mut before = 0;
+    let mut longest: usize = 0;
+    let mut before: usize = 0;
     for byte in text {
         if *byte == b'\n' {
             longest = before.max(longest);

@@ -9,16 +9,14 @@ loop-byte-preserved c =
     let text = c.args.text.now in
     let place = c.loop-byte.byte-index in
     let before = c.loop-byte.before in
-    let longest = c.loop-byte.longest in
-    let byte = c.byte-item.result.now in
     elim c.if-byte-eq10.branch [
       | then-byte-eq10 w ↦ record {
-        due = line_ends text place byte before c.loop-byte-test.true c.byte-item.is longest _ _ _ w.if-byte-eq10.true
-            (w.longest-is ∙ w.max.ensures) w.before-is c.loop-byte.invariant.due;
+        due = line_ends text place before c.loop-byte-test.true c.loop-byte.longest _ _ _ w.if-byte-eq10.true
+            (w.longest-is ∙ w.max-longest.ensures) w.before-is c.loop-byte.invariant.due;
         within = omega (arith, w.before-is);
       }
       | else-byte-eq10 w ↦ record {
-        due = line_goes_on text place byte before c.loop-byte-test.true c.byte-item.is longest _ _ _ w.if-byte-eq10.false
+        due = line_goes_on text place before c.loop-byte-test.true c.loop-byte.longest _ _ _ w.if-byte-eq10.false
             w.longest-is w.before-is c.loop-byte.invariant.due;
         within = omega (arith, w.before-is, c.loop-byte.invariant.within);
       }
