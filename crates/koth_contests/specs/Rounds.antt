@@ -4,7 +4,7 @@ use Rattle.{war_types.specs.{Warrior.WarriorParts, declared.settings.RawSettings
 use Rattle.{koth_match.specs.{Match.{AreCounts, first_in, match_of, round_outcome}, Seeds.{position, seed_of_round}}, koth_replay.specs.Replay.turns_in}
 use Rattle.{koth_text.specs.{Columns.padded, declared.columns.Alignment.Alignment}, koth_words.specs.declared.requests.View.View}
 use Rattle.koth_json.specs.Contest.{round_line as round_object}
-use Rattle.koth_contests.specs.declared.rounds.Played.Played
+use Rattle.koth_contests.specs.declared.rounds.Played.{Played}
 
 -- round r of a match, counted from 0: its number is counted from 1
 abbrev pub round_of : RawSettings → WarriorParts → WarriorParts → ℕ → Played

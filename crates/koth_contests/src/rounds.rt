@@ -1,7 +1,7 @@
 //! The rounds of a match, one after the other: how each went, and the first that ended in some way.
 
 ghost use Rattle.std.specs.Prelude.{◌≡◌, ◌++◌, IfOk, OnOk};
-ghost use Rattle.war_types.specs.Warrior.Fits;
+ghost use Rattle.war_types.specs.Warrior.{Fits};
 ghost use Rattle.koth_contests.specs.Rounds.{ends_columns, ends_told, outcome_name, round_columns, round_line, round_of, round_told, rounds_heading, side_name, IsEach, IsFirst};
 
 use crate::lines::put_right;
