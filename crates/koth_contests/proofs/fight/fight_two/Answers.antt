@@ -15,5 +15,5 @@ returns-in-Ok-text_of g c =
       tells = c.in-Ok-text_of.ensures;
     })
 
-pub returns-in-Err : goal.returns-in-Err
-returns-in-Err g c = answers_none _ _ _ _ c.answer_none.result c.answer_none.ensures
+pub returns : goal.returns
+returns g c = answers_none _ _ _ _ c.answer_none.result c.answer_none.ensures
