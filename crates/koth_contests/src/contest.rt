@@ -35,9 +35,11 @@ pub fn contest_tally<A: Allocator, B: Allocator, C: Allocator>(
     }
 }
 
-/// The rounds of both, which must be few enough to be counted.
+/// The rounds of both.
 pub fn added(a: Tally, b: Tally) -> Tally
-    requires { rounds_in a + rounds_in b ≤ u64.MAX }
+    requires won { a.won + b.won ≤ u64.MAX }
+    requires lost { a.lost + b.lost ≤ u64.MAX }
+    requires tied { a.tied + b.tied ≤ u64.MAX }
     ensures { result ≡ added a b }
 {
     Tally {
