@@ -16,8 +16,8 @@ use std::rt::Files;
 use war_types::{RawSettings, Settings};
 
 /// Writes every refusal of sources, under the settings that are given, and every warning if they are asked for. Each is written for people,
-/// with the line's text and a caret under what is meant, or as a line of JSON. Standard error says of which sources an assembly takes more
-/// steps than a service allows by default, and which ones can't be read. Settings that are out of their ranges are refused before anything is
+/// with the line's text and a caret under what is meant, or as a line of JSON. Standard error names the sources whose assembly takes more
+/// steps than a service allows by default, and those that can't be read. Settings that are out of their ranges are refused before anything is
 /// read. If the output fails or memory runs out, no further source is checked.
 pub fn check<R: Files, A: Allocator + Copy, I: Read, O: Write, E: Write>(
     rt: &R,

@@ -3,7 +3,7 @@ use Rattle.std.proofs.Common.{◌≡◌, inl, inr, ℕ, ◌+◌, ◌<◌, List, 
 use Rattle.{std.specs.List.flat_map, std.proofs.lemmas.{List.{map_push, take_more}, List.Concat.flat_map-append, List.Elements.{All-nil, All-push}}}
 use Rattle.{koth_words.specs.declared.requests.Source.Source, koth_commands.specs.Streams.source_name, koth_contests.specs.Opponents.{AreFiles, IsIn, IsPart, Part, PutsFiles, PutsIn}}
 
--- names in a folder were put behind the old ones
+-- names in a folder were put after the old ones
 abbrev pub InFolder : List ℕ → List (List ℕ) → List (List ℕ) → Type 0
 InFolder folder old new = (files : List (List ℕ)) × All (IsIn folder) files × (new ≡ old ++ files)
 

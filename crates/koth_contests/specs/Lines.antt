@@ -40,7 +40,7 @@ contest_line View.Plain mine other t = counts_told t ++ (opponent_told other.fil
 contest_line View.Table mine other t = counts_columns t ++ (opponent_columns other.name other.file ++ codes "\n")
 contest_line View.Json mine other t = match_line mine other t (points_of t)
 
--- the line of all opponents together, `count` of which mine fought
+-- the line of all opponents together: mine fought `count` of them
 abbrev pub sum_line : View → ContenderParts → ℕ → Tally → List ℕ
 sum_line View.Plain mine count t = counts_told t ++ codes "\n"
 sum_line View.Table mine count t = counts_columns t ++ codes "\n"

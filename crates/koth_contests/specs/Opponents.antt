@@ -14,11 +14,11 @@ IsIn folder file = (rest : List ℕ) × (file ≡ folder ++ rest)
 abbrev pub StandsFor : List ℕ → List (List ℕ) → Type 0
 StandsFor word files = (files ≡ word ∷ []) ⊎ All (IsIn word) files
 
--- the names that the word stands for were put behind the old ones
+-- the names that the word stands for were put after the old ones
 abbrev pub PutsFiles : List ℕ → List (List ℕ) → List (List ℕ) → Type 0
 PutsFiles word old new = (files : List (List ℕ)) × StandsFor word files × (new ≡ old ++ files)
 
--- one name in this folder was put behind the old ones
+-- one name in this folder was put after the old ones
 abbrev pub PutsIn : List ℕ → List (List ℕ) → List (List ℕ) → Type 0
 PutsIn folder old new = (file : List ℕ) × IsIn folder file × (new ≡ old ++ file ∷ [])
 
