@@ -1,7 +1,8 @@
 //! Expressions: C's operators and precedence on 64-bit signed numbers.
 
-ghost use Rattle.std.specs.{Prelude.{◌≡◌, ◌≤◌, ◌<◌, ℕ, List, length, Option, IfSome, ℤ}, Option.option_map};
-ghost use Rattle.redcode_text.specs.{Operators.denied, Tokens.{piece_of, pieces}, Value.{symbols, listed, known, number_value, part_of, value_of}};
+ghost use Rattle.std.specs.{Prelude.{◌≡◌, ◌≢◌, ◌≤◌, ◌<◌, ℕ, List, ◌∷◌, length, Option, IfSome, ℤ}, Option.option_map};
+ghost use Rattle.redcode_text.specs.{Operators.{Value, denied}, Tokens.{piece_of, pieces}, Value.{symbols, listed, known, number_value, part_of, value_of}};
+ghost use Rattle.redcode_text.specs.declared.expression.Part.TheVariants.{Operand};
 ghost use Rattle.redcode_text.specs.Climbing.{Climbs, Begin, parts_of, found, next, next_at, under, signed_found, enclosed};
 
 use crate::names::Names;
@@ -60,7 +61,7 @@ fn climb<'t, 'l, N: Names>(tokens: &'t [Token<'l>], names: &N, rank: u8, depth: 
     let mut climbed = 0;
     while climbed < rank && !rest.is_empty() {
         while let Some((operator, behind)) = operator_at(rest, names, climbed + 1) {
-            let (right, after) = climb(behind, names, climbed, depth)?;
+            let (right, after) = right_of(behind, names, climbed, depth)?;
             value = applied(operator, value, right);
             rest = after;
         }
@@ -69,8 +70,29 @@ fn climb<'t, 'l, N: Names>(tokens: &'t [Token<'l>], names: &N, rank: u8, depth: 
     Some((value, rest))
 }
 
+/// What `climb` finds. If that is an operand alone, no loop is begun for it.
+#[cycle(climb)]
+#[inline(always)]
+fn right_of<'t, 'l, N: Names>(
+    tokens: &'t [Token<'l>],
+    names: &N,
+    rank: u8,
+    depth: u8,
+) -> Found<'t, 'l>
+    ensures climbs { Climbs rank depth (Begin (parts_of (N.values names.now) tokens.entry.now))
+        (found (N.values names.now) result) }
+    ensures shorter { IfSome result (λ f. length f.1.now ≤ length tokens.entry.now) }
+{
+    if rank == 0 {
+        operand(tokens, names, depth)
+    } else {
+        climb(tokens, names, rank, depth)
+    }
+}
+
 /// A number, a name, or a unary operator or parentheses around what is left of the depth.
 #[cycle(climb)]
+#[inline(always)]
 fn operand<'t, 'l, N: Names>(tokens: &'t [Token<'l>], names: &N, depth: u8) -> Found<'t, 'l>
     ensures climbs { Climbs 0 depth (Begin (parts_of (N.values names.now) tokens.entry.now)) (found (N.values names.now) result) }
     ensures shorter { IfSome result (λ f. length f.1.now ≤ length tokens.entry.now) }
@@ -82,13 +104,29 @@ fn operand<'t, 'l, N: Names>(tokens: &'t [Token<'l>], names: &N, depth: u8) -> F
     if let Part::Operand(value) = part {
         return Some((value, rest));
     }
+    around(part, rest, names, depth)
+}
+
+/// The value that begins with this part, a unary operator or a parenthesis, and goes on with these tokens.
+#[cycle(climb)]
+fn around<'t, 'l, N: Names>(
+    part: Part,
+    tokens: &'t [Token<'l>],
+    names: &N,
+    depth: u8,
+) -> Found<'t, 'l>
+    requires other { (v : Value) → part ≢ Operand v }
+    ensures climbs { Climbs 0 depth (Begin (part ∷ parts_of (N.values names.now) tokens.entry.now))
+        (found (N.values names.now) result) }
+    ensures shorter { IfSome result (λ f. length f.1.now ≤ length tokens.entry.now) }
+{
     if depth == 0 {
         return None;
     }
     match part {
-        Part::Open => before_close(climb(rest, names, LOOSEST, depth - 1), names),
-        Part::Not => behind_not(operand(rest, names, depth - 1)),
-        Part::Operator(sign) => behind_sign(sign, operand(rest, names, depth - 1)),
+        Part::Open => before_close(climb(tokens, names, LOOSEST, depth - 1), names),
+        Part::Not => behind_not(operand(tokens, names, depth - 1)),
+        Part::Operator(sign) => behind_sign(sign, operand(tokens, names, depth - 1)),
         _ => None,
     }
 }
@@ -148,6 +186,7 @@ fn before_close<'t, 'l, N: Names>(inner: Found<'t, 'l>, names: &N) -> Found<'t, 
     }
 }
 
+#[inline(always)]
 fn part_of<N: Names>(token: &Token<'_>, names: &N) -> Part
     ensures { result ≡ part_of (N.values names.now) (piece_of token.now) }
 {
@@ -194,10 +233,12 @@ fn number_value(digits: &[u8]) -> Value
     ensures { result ≡ number_value digits.now }
 {
     const LARGEST: u64 = i64::MAX as u64;
+    /// A number below this has room for one more digit.
+    const ROOMY: u64 = 1 << 59;
     let mut number = 0;
     for digit in digits {
         let unit = u64::from(digit.saturating_sub(b'0'));
-        if number > (LARGEST - unit) / 10 {
+        if number >= ROOMY && number > (LARGEST - unit) / 10 {
             return Err(ExprFault::Overflow);
         }
         number = 10 * number + unit;

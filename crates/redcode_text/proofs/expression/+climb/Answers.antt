@@ -1,4 +1,4 @@
-use Rattle.{std.proofs.{Common.{◌≡◌, sym, suc, drop, arith, add-one}, lemmas.Grind.common_steps}, redcode_text.specs.Climbing.parts_of}
+use Rattle.std.proofs.{Common.{◌≡◌, refl, sym, suc, arith, add-one}, lemmas.Grind.common_steps}
 use Rattle.redcode_text.proofs.ClimbSteps.{empty_at, refused_at, part_at, inner_at, refused_on, ended_at}
 use Rattle.redcode_text.specs.Climbing as climbs
 use Rattle.redcode_text.proofs.expression.+climb.Goals.{climb-then-loop-climbed-test+else-not-is_empty, climb-else-loop-climbed-test}
@@ -46,25 +46,32 @@ operand-returns-in_default-clause-climbs g t c = empty_at (grind (arith, common_
 pub operand-returns-in-Operand-clause-climbs : goal.operand-returns-in-Operand-clause-climbs
 operand-returns-in-Operand-clause-climbs g t c = part_at (grind (arith, common_steps)) c.in-Operand.is climbs.operand
 
-pub operand-returns-then-depth-eq0-clause-climbs : goal.operand-returns-then-depth-eq0-clause-climbs
-operand-returns-then-depth-eq0-clause-climbs g t c =
-    refused_at {qs = parts_of (g.N.Names.values c.args.names.now) (drop 1 c.args.tokens.now)} (grind (arith, common_steps)) c.in_default-part.not-Operand (λ k e. absurd (omega arith))
+pub operand-returns-clause-climbs : goal.operand-returns-clause-climbs
+operand-returns-clause-climbs g t c = part_at (grind (arith, common_steps)) refl c.around.ensures.climbs
 
-pub operand-returns-in-Open-clause-climbs : goal.operand-returns-in-Open-clause-climbs
-operand-returns-in-Open-clause-climbs g t c =
-    rw c.before_close.ensures.value (inner_at c.if-depth-eq0.false (grind (arith, common_steps)) c.in-Open.is (climbs.parentheses c.climb.ensures.climbs))
+pub around-returns-then-depth-eq0-clause-climbs : goal.around-returns-then-depth-eq0-clause-climbs
+around-returns-then-depth-eq0-clause-climbs g t c = refused_at refl c.requires.other (λ k e. absurd (omega arith))
 
-pub operand-returns-in-Not-clause-climbs : goal.operand-returns-in-Not-clause-climbs
-operand-returns-in-Not-clause-climbs g t c =
+pub around-returns-in-Open-clause-climbs : goal.around-returns-in-Open-clause-climbs
+around-returns-in-Open-clause-climbs g t c =
+    rw c.before_close.ensures.value (
+    inner_at c.if-depth-eq0.false refl c.in-Open.is (climbs.parentheses c.climb.ensures.climbs))
+
+pub around-returns-in-Not-clause-climbs : goal.around-returns-in-Not-clause-climbs
+around-returns-in-Not-clause-climbs g t c =
     rw (c.behind_not.ensures.value (g.N.Names.values c.args.names.now)) (
-    inner_at c.if-depth-eq0.false (grind (arith, common_steps)) c.in-Not.is (climbs.negation c.operand.ensures.climbs))
+    inner_at c.if-depth-eq0.false refl c.in-Not.is (climbs.negation c.operand.ensures.climbs))
 
-pub operand-returns-in-Operator-clause-climbs : goal.operand-returns-in-Operator-clause-climbs
-operand-returns-in-Operator-clause-climbs g t c =
+pub around-returns-in-Operator-clause-climbs : goal.around-returns-in-Operator-clause-climbs
+around-returns-in-Operator-clause-climbs g t c =
     rw (c.behind_sign.ensures.value (g.N.Names.values c.args.names.now)) (
-    inner_at c.if-depth-eq0.false (grind (arith, common_steps)) c.in-Operator.is (climbs.sign c.in-Operator.sign c.operand-in-Operator.ensures.climbs))
+    inner_at c.if-depth-eq0.false refl c.in-Operator.is (
+    climbs.sign c.in-Operator.sign c.operand-in-Operator.ensures.climbs))
 
-pub operand-returns-in_default-part-2-clause-climbs : goal.operand-returns-in_default-part-2-clause-climbs
-operand-returns-in_default-part-2-clause-climbs g t c =
-    refused_at {qs = parts_of (g.N.Names.values c.args.names.now) (drop 1 c.args.tokens.now)} (grind (arith, common_steps)) c.in_default-part.not-Operand
-    (λ k e. (c.in_default-part-2.not-Open, c.in_default-part-2.not-Not, c.in_default-part-2.not-Operator))
+pub around-returns-in_default-clause-climbs : goal.around-returns-in_default-clause-climbs
+around-returns-in_default-clause-climbs g t c =
+    refused_at refl c.requires.other (
+    λ k e. (c.in_default.not-Open, c.in_default.not-Not, c.in_default.not-Operator))
+
+pub right_of-returns-then-rank-eq0-clause-climbs : goal.right_of-returns-then-rank-eq0-clause-climbs
+right_of-returns-then-rank-eq0-clause-climbs g t c = rw c.if-rank-eq0.true c.operand.ensures.climbs

@@ -3,10 +3,16 @@ use Rattle.{std.proofs.Common.{suc, ◌+◌, ◌-◌, ◌*◌, ◌≤◌, length
 use Rattle.redcode_text.proofs.expression.+climb.Given as goal
 
 abbrev pub decreases-climb : goal.decreases-climb
-decreases-climb g l = 8 * length l.tokens.now + (l.rank + 1)
+decreases-climb g l = 9 * length l.tokens.now + (l.rank + 1)
+
+abbrev pub decreases-right_of : goal.decreases-right_of
+decreases-right_of g l = 9 * length l.tokens.now + (l.rank + 2)
 
 abbrev pub decreases-operand : goal.decreases-operand
-decreases-operand g l = 8 * length l.tokens.now
+decreases-operand g l = 9 * length l.tokens.now
+
+abbrev pub decreases-around : goal.decreases-around
+decreases-around g l = 9 * length l.tokens.now + 8
 
 abbrev pub invariant-climb-loop-climbed : goal.invariant-climb-loop-climbed
 invariant-climb-loop-climbed g l =
