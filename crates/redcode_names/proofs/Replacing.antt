@@ -1,8 +1,9 @@
 -- Rounds of replacement over lists, what they leave, and what is written.
-use Rattle.std.proofs.Common.{◌≡◌, ℕ, zero, suc, ◌≤◌, ◌<◌, ◌-◌, ◌||◌, List, [], ◌∷◌, ◌++◌, length, Result, Ok, Err, refl, sym, ap, ◌∙◌, append_assoc, append-nil, length-append, arith}
+use Rattle.std.proofs.Common.{◌≡◌, ℕ, zero, suc, ◌≤◌, ◌<◌, ◌-◌, ◌||◌, false, List, [], ◌∷◌, ◌++◌, length, Result, Ok, Err, refl, sym, ap, ◌∙◌, append_assoc, append-nil, length-append, arith}
 use Rattle.std.proofs.{lemmas.Bool.Decides.nat_tests, lemmas.Grind.common_steps, lemmas.List.{length-map, map-append, drop_more, drop_all}}
 use Rattle.{war_types.specs.{declared.fault.AsmFault.AsmFault, declared.fault.AsmKind.AsmKind}, redcode_text.specs.Tokens.Piece}
-use Rattle.redcode_names.specs.{Gives.{◌>>=◌, fault_at}, Equ.{EquList, or_itself, body_at, round, has_equ, left_over, rounds, after_rounds}, Written.{all_written, itself_or, written}}
+use Rattle.redcode_names.specs.{Gives.{◌>>=◌, fault_at}, Equ.{EquList, or_itself, body_at, round, has_equ, left_over, rounds, after_rounds}}
+use Rattle.redcode_names.specs.Written.{all_written, itself_or, has_name, appended, written}
 
 round-append : (equs : EquList) (xs ys : List Piece) → round equs (xs ++ ys) ≡ round equs xs ++ round equs ys
 round-append equs [] ys = refl
@@ -62,6 +63,19 @@ one-left (suc n) line equs out x (b ∷ bs) is = rw (is, append-nil (b ∷ bs)) 
 pub written-left : (n line : ℕ) (equs : EquList) (out xs : List Piece) → (left_over line equs out >>= λ o. written (suc n) line equs o xs) ≡ left_over line equs (out ++ after_rounds n equs xs)
 written-left n line equs out xs = all-left n line equs _ (λ o y. one-left n line equs o y (body_at equs y) refl) out xs
 
+-- tokens among which no name is are written as they are
+pub written-plain : (n line : ℕ) (equs : EquList) (out tokens : List Piece) → has_name tokens ≡ false
+    → written (suc n) line equs out tokens ≡ appended line out tokens
+written-plain n line equs out [] none = grind (arith, nat_tests, append-nil out)
+written-plain n line equs out (x ∷ xs) none =
+    grind (
+      arith,
+      nat_tests,
+      written-plain n line equs (out ++ x ∷ []) xs,
+      append_assoc out (x ∷ []) xs,
+      length-append out (x ∷ []),
+    )
+
 -- a body is written in one round less
 pub written_more : (n line : ℕ) (equs : EquList) (out tokens : List Piece) → 0 < n → written n line equs out tokens ≡ written (suc (n - 1)) line equs out tokens
 written_more zero line equs out tokens more = absurd (omega arith)
@@ -78,7 +92,10 @@ rounds-left_over zero line equs xs = refl
 rounds-left_over (suc n) line equs xs = grind (arith, nat_tests, after-longer (suc n) equs xs, rounds-left_over n line equs (round equs xs))
 
 -- what the steps of the code rest on
-pub ruleset steps = (written_more, other_for, length-map, common_steps)
+pub ruleset steps = (written-plain, written_more, other_for, length-map, common_steps)
 
 -- what a further token rests on
 pub ruleset further = (written_more, other_for, length-map, map-append, drop_more, drop_all)
+
+-- what tokens that are appended at once rest on
+pub ruleset appends = (length-map, map-append, nat_tests)

@@ -2,9 +2,10 @@
 
 ghost use Rattle.std.specs.{Prelude.{◌≡◌, suc, []}, Cow.cow_slice_items};
 ghost use Rattle.{war_types.specs.declared.fault.AsmKind.TheVariants.EquLimit, redcode_text.specs.Tokens.pieces};
-ghost use Rattle.redcode_names.specs.{Gives.{Gives, fault_at}, Equ.replaced, Written.written};
+ghost use Rattle.redcode_names.specs.{Gives.{Gives, fault_at}, Equ.replaced, Written.{has_name, appended, written}};
 
 use crate::equs::Equs;
+use redcode_lines::is_name;
 use redcode_text::Token;
 use std::alloc::Allocator;
 use std::borrow::CowSlice;
@@ -67,6 +68,9 @@ fn write<'s, A: Allocator + Copy>(
 ) -> Result<(), AsmFault>
     ensures { Gives (λ _. pieces out.new.items) result (written (suc rounds) line equs.now (pieces out.old.items) (pieces tokens.now)) }
 {
+    if !has_name(tokens) {
+        return append(line, tokens, out, work);
+    }
     for token in tokens {
         *work = work.saturating_add(work_of(token));
         let body = equs.body_at(token);
@@ -77,11 +81,45 @@ fn write<'s, A: Allocator + Copy>(
             write(equs, line, rounds - 1, body, out, work)?;
             continue;
         }
-        if out.len() == TOKEN_LIMIT {
+        if out.len() >= TOKEN_LIMIT {
             return Err(too_many(line));
         }
         out.push(*token)?;
     }
+    Ok(())
+}
+
+/// Whether a name is among the tokens.
+fn has_name(tokens: &[Token<'_>]) -> bool
+    ensures { result ≡ has_name (pieces tokens.now) }
+{
+    for token in tokens {
+        if is_name(token) {
+            return true;
+        }
+    }
+    false
+}
+
+/// Appends tokens among which no name is, all at once. They take as many steps as they would one by one.
+#[tactic(auto, using(crate::proofs::Replacing::appends))]
+fn append<'s, A: Allocator>(
+    line: u32,
+    tokens: &[Token<'s>],
+    out: &mut Vec<Token<'s>, A>,
+    work: &mut u64,
+) -> Result<(), AsmFault>
+    ensures { Gives (λ _. pieces out.new.items) result (appended line (pieces out.old.items) (pieces tokens.now)) }
+{
+    let mut steps = *work;
+    for token in tokens {
+        steps = steps.saturating_add(work_of(token));
+    }
+    *work = steps;
+    if tokens.len() > TOKEN_LIMIT.saturating_sub(out.len()) {
+        return Err(too_many(line));
+    }
+    out.extend_from_slice(tokens)?;
     Ok(())
 }
 

@@ -11,8 +11,8 @@ returns-in_err-write g t c = grind (arith, further)
 pub loop-token-preserved-then-not-is_empty : goal.loop-token-preserved-then-not-is_empty
 loop-token-preserved-then-not-is_empty g t c = grind (arith, further)
 
-pub returns-then-len-eq-TOKEN_LIMIT : goal.returns-then-len-eq-TOKEN_LIMIT
-returns-then-len-eq-TOKEN_LIMIT g t c = grind (arith, further)
+pub returns-then-len-ge-TOKEN_LIMIT : goal.returns-then-len-ge-TOKEN_LIMIT
+returns-then-len-ge-TOKEN_LIMIT g t c = grind (arith, further)
 
 pub returns-in_err-push : goal.returns-in_err-push
 returns-in_err-push g t c = grind (arith, further)
