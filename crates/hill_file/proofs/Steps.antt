@@ -1,8 +1,8 @@
 -- What a careful device has done, step by step.
-use Rattle.std.proofs.{Common.{◌≡◌, ◌⊎◌, inl, inr, refl, sym, subst, true≢false, ℕ, ◌+◌, ◌<◌, List, [], ◌∷◌, ◌++◌, Result, Ok, Err, IsErr, append_assoc, arith}, lemmas.Bool.cases_lt}
+use Rattle.std.proofs.{Common.{◌≡◌, ◌⊎◌, inl, inr, refl, sym, subst, true≢false, ℕ, ◌+◌, ◌<◌, List, [], ◌∷◌, ◌++◌, Result, Ok, Err, IsErr, arith}, lemmas.Bool.cases_lt}
 use Rattle.std.specs.{Bool.⊤, Prelude.{MatchResult}}
 use Rattle.hill_file.specs.{declared.careful_device.CarefulDevice.CarefulDevice, declared.sector_file.Headers.Headers, Done.{Done, Reads}}
-use Rattle.hill_file.specs.Careful.{EachWasWritten, FollowsRead, HasDone, IsAsRead, IsLook, IsLookAtMost, IsRead, IsSure, IsSync, Opening, WasWritten, remembered}
+use Rattle.hill_file.specs.Careful.{EachWasWritten, HasDone, IsAsRead, IsLook, IsLookAtMost, IsRead, IsSure, IsSync, Opening, WasWritten, remembered}
 
 -- what holds at an Err
 pub at_err : {T E Q : Type 0} (P : Type 0) (result : Result T E) → IsErr result → Q → MatchResult result (λ _. P) (λ _. Q)
@@ -13,35 +13,6 @@ at_err P (Err error) is it = it
 pub at_ok : {T E P Q : Type 0} (result : Result T E) → (P → Q) → MatchResult result (λ _. P) (λ _. ⊤) → MatchResult result (λ _. Q) (λ _. ⊤)
 at_ok (Ok value) more it = more it
 at_ok (Err error) more it = it
-
-look_as_read : (done : List Done) → IsLookAtMost done → IsAsRead done
-look_as_read done (inl is) = subst IsAsRead (sym is) tt
-look_as_read done (inr (headers, is)) = subst IsAsRead (sym is) tt
-
-follows_more : (n : ℕ) (content : List ℕ) (done more : List Done) → FollowsRead n content done → FollowsRead n content (done ++ more)
-follows_more n content [] more it = absurd it
-follows_more n content (Done.Looked headers ∷ []) more it = absurd it
-follows_more n content (Done.Looked headers ∷ Done.Read k found ∷ done) more it = it
-follows_more n content (Done.Looked headers ∷ Done.Looked found ∷ done) more it = absurd it
-follows_more n content (Done.Looked headers ∷ Done.Wrote k found ∷ done) more it = absurd it
-follows_more n content (Done.Looked headers ∷ Done.Tried k found ∷ done) more it = absurd it
-follows_more n content (Done.Looked headers ∷ Done.Synced ∷ done) more it = absurd it
-follows_more n content (Done.Looked headers ∷ Done.Unsynced ∷ done) more it = absurd it
-follows_more n content (Done.Read k found ∷ done) more it = absurd it
-follows_more n content (Done.Wrote k found ∷ done) more it = absurd it
-follows_more n content (Done.Tried k found ∷ done) more it = absurd it
-follows_more n content (Done.Synced ∷ done) more it = absurd it
-follows_more n content (Done.Unsynced ∷ done) more it = absurd it
-
--- a look before it changes nothing of that
-pub as_read_looked : (done : List Done) (headers : Headers) → IsAsRead done → IsAsRead (done ++ Done.Looked headers ∷ [])
-as_read_looked [] headers it = tt
-as_read_looked (Done.Looked found ∷ done) headers it = as_read_looked done headers it
-as_read_looked (Done.Read n content ∷ done) headers it = as_read_looked done headers it
-as_read_looked (Done.Wrote n content ∷ done) headers it = (follows_more n content done (Done.Looked headers ∷ []) it.0, as_read_looked done headers it.1)
-as_read_looked (Done.Tried n content ∷ done) headers it = (follows_more n content done (Done.Looked headers ∷ []) it.0, as_read_looked done headers it.1)
-as_read_looked (Done.Synced ∷ done) headers it = as_read_looked done headers it
-as_read_looked (Done.Unsynced ∷ done) headers it = as_read_looked done headers it
 
 module _ {F : Type 0} (happened : F → List Done → Type 0) (start : Opening) (log : List Done) where
   -- something was done since, and it is so
@@ -92,47 +63,18 @@ module _ {F : Type 0} (happened : F → List Done → Type 0) (start : Opening) 
     subst (λ xs. HasDone happened start device (xs ++ Done.Read n content ∷ (before ++ log))) is on,
   )
 
-  -- the look before a sync stands before all else that it did
-  whole : (done : List Done) (headers : Headers) → done ++ Done.Looked headers ∷ log ≡ (done ++ Done.Looked headers ∷ []) ++ log
-  whole done headers = sym (append_assoc done (Done.Looked headers ∷ []) log)
-
-  -- the look before a sync failed
-  pub unlooked : {T E : Type 0} (sectors : ℕ) (device : CarefulDevice F) (result : Result T E) (done : List Done) → IsErr result
-      → IsLookAtMost done → HasDone happened start device (done ++ log)
+  -- the last look of a sync, in whatever way it came out
+  pub synced : {T E : Type 0} (sectors : ℕ) (device : CarefulDevice F) (result : Result T E) (done last : List Done)
+      → IsAsRead done → IsSure start sectors (Done.Synced ∷ (done ++ log))
+      → IsLook result start (Done.Synced ∷ (done ++ log)) last
+      → HasDone happened start device (last ++ Done.Synced ∷ (done ++ log))
       → HasGone (IsSync sectors result start log) device
-  unlooked sectors device result done err is on = (done, (look_as_read done is, at_err _ result err tt), on)
-
-  -- one of the steps after that look failed
-  pub broken_off : {T E : Type 0} (sectors : ℕ) (device : CarefulDevice F) (result : Result T E) (headers : Headers) (done : List Done) → IsErr result
-      → IsAsRead done → HasDone happened start device (done ++ Done.Looked headers ∷ log)
-      → HasGone (IsSync sectors result start log) device
-  broken_off sectors device result headers done err is on = (
-    done ++ Done.Looked headers ∷ [],
-    (as_read_looked done headers is, at_err _ result err tt),
-    subst (λ xs. HasDone happened start device xs) (whole done headers) on,
+  synced sectors device (Ok value) done last is sure looked on = (
+    Done.Looked (remembered start (done ++ log)) ∷ Done.Synced ∷ done,
+    (is, (refl, sure)),
+    subst (λ xs. HasDone happened start device (xs ++ Done.Synced ∷ (done ++ log))) looked on,
   )
-
-  -- the last look, in whatever way it came out
-  pub synced : {T E : Type 0} (sectors : ℕ) (device : CarefulDevice F) (result : Result T E) (headers : Headers) (done last : List Done)
-      → IsAsRead done → IsSure start sectors (Done.Synced ∷ (done ++ Done.Looked headers ∷ log))
-      → IsLook result start (Done.Synced ∷ (done ++ Done.Looked headers ∷ log)) last
-      → HasDone happened start device (last ++ Done.Synced ∷ (done ++ Done.Looked headers ∷ log))
-      → HasGone (IsSync sectors result start log) device
-  synced sectors device (Ok value) headers done last is sure looked on = (
-    Done.Looked (remembered start (done ++ Done.Looked headers ∷ log)) ∷ Done.Synced ∷ (done ++ Done.Looked headers ∷ []),
-    (
-      as_read_looked done headers is,
-      (
-        subst (λ xs. remembered start (done ++ Done.Looked headers ∷ log) ≡ remembered start xs) (whole done headers) refl,
-        subst (λ xs. IsSure start sectors (Done.Synced ∷ xs)) (whole done headers) sure,
-      ),
-    ),
-    subst (λ xs. HasDone happened start device (Done.Looked (remembered start (done ++ Done.Looked headers ∷ log)) ∷ Done.Synced ∷ xs)) (whole done headers)
-        (subst (λ xs. HasDone happened start device (xs ++ Done.Synced ∷ (done ++ Done.Looked headers ∷ log))) looked on),
-  )
-  synced {T = T} {E = E} sectors device (Err error) headers done last is sure (inl looked) on =
-      broken_off {T = T} {E = E} sectors device (Err error) headers (Done.Synced ∷ done) refl is
-      (subst (λ xs. HasDone happened start device (xs ++ Done.Synced ∷ (done ++ Done.Looked headers ∷ log))) looked on)
-  synced {T = T} {E = E} sectors device (Err error) headers done last is sure (inr (found, looked)) on =
-      broken_off {T = T} {E = E} sectors device (Err error) headers (Done.Looked found ∷ Done.Synced ∷ done) refl is
-      (subst (λ xs. HasDone happened start device (xs ++ Done.Synced ∷ (done ++ Done.Looked headers ∷ log))) looked on)
+  synced sectors device (Err error) done last is sure (inl looked) on =
+      (Done.Synced ∷ done, (is, tt), subst (λ xs. HasDone happened start device (xs ++ Done.Synced ∷ (done ++ log))) looked on)
+  synced sectors device (Err error) done last is sure (inr (found, looked)) on =
+      (Done.Looked found ∷ Done.Synced ∷ done, (is, tt), subst (λ xs. HasDone happened start device (xs ++ Done.Synced ∷ (done ++ log))) looked on)

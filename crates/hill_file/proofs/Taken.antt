@@ -1,5 +1,5 @@
 -- Zeros that are read one part after another.
-use Rattle.std.proofs.{Common.{◌≡◌, ◌↔◌, ◌∙◌, ℕ, Bool, true, false, true≢false, List, [], ◌∷◌, ◌++◌, Option, Some, None, All, IfSome, subst, sym}, KnownBytes.Consumes-trans}
+use Rattle.std.proofs.{Common.{◌≡◌, ◌↔◌, ◌∙◌, ℕ, Bool, true, false, true≢false, List, [], ◌∷◌, ◌++◌, Option, Some, None, IfSome, subst, sym}, KnownBytes.Consumes-trans}
 use Rattle.{std.proofs.lemmas.List.Elements.{All-append, All-cons, All-head, All-nil, All-tail}, std.specs.{Prelude.IsTrue, Io.KnownBytes.Consumes}, hill_file.specs.Zeros.{AreZeros, TakesZeros}}
 
 pub more_zeros : (a b c : Option (List ℕ)) (bytes : List ℕ) → TakesZeros a b → Consumes b c bytes → AreZeros bytes → TakesZeros a c

@@ -9,9 +9,9 @@ use sector_disk::{Device, Fault};
 
 /// A device over a file of sectors, which notices if somebody else wrote the file's headers.
 ///
-/// It knows both headers as they were when it was opened, or as it wrote them since. Before each write and each sync, and again after a
-/// sync, it looks whether the file has them and each sector. If not, the call is a fault, and writes nothing. After a sync that failed,
-/// and when it was opened in doubt, the next one first writes each sector again as it reads it.
+/// It knows both headers as they were when it was opened, or as it wrote them since. Before each write and after each
+/// sync it looks whether the file has them and each sector. If not, the call is a fault, and a write writes nothing.
+/// After a sync that failed, and when it was opened in doubt, the next one first writes each sector again as it reads it.
 #[derive(Drop)]
 pub struct CarefulDevice<F> {
     file: F,
@@ -130,14 +130,13 @@ impl<F: SectorFile> CarefulDevice<F> {
         answer
     }
 
-    /// Syncs the file between two looks.
+    /// Syncs the file, and looks after that.
     fn sync_whole(&mut self) -> Result<(), Fault>
         ensures size { self.new.sectors ≡ self.old.sectors }
         ensures faults { self.new.faults ≡ self.old.faults }
         ensures settled { self.new.settled ≡ self.old.settled }
         ensures goes { Goes F.happened (IsSync self.old.sectors result) self.old self.new }
     {
-        self.look()?;
         self.freshen()?;
         self.settle()?;
         self.look()

@@ -31,7 +31,7 @@ pub enum Existing {
 /// A careful device over the file at a path: the n-th 512 bytes of the file are sector n. It keeps the file's lock, if it took it, until it is
 /// dropped.
 ///
-/// It looks before each write and each sync, and after a sync, which takes its time: the path has to lead to the file that is open still. If it
+/// It looks before each write and after each sync: the path has to lead to the file that is open still. If it
 /// doesn't, or if the system doesn't say, the call is a fault. So a hill whose file was removed, replaced, cut or written by another program
 /// is never said to be synced, and nothing is written over what was copied in.
 pub type HillFile<'f, R> = CarefulDevice<PlacedFile<'f, R>>;

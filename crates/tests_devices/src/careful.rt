@@ -92,10 +92,10 @@ impl SectorFile for FakeFile<'_> {
 const WRITTEN: [u8; 3] = *b"mhw";
 
 /// A sync.
-const SYNCED: [u8; 5] = *b"mhymh";
+const SYNCED: [u8; 3] = *b"ymh";
 
 /// A sync of a device in doubt.
-const DOUBTED: [u8; 17] = *b"mhrmhwrmhwrmhwymh";
+const DOUBTED: [u8; 15] = *b"rmhwrmhwrmhwymh";
 
 /// What the calls find: another program writes to the first sector before the call of this number.
 fn begin(held: &Cell<Held>, calls: &Cell<Calls>, other: usize) {
@@ -147,7 +147,7 @@ fn expect_noticed(rt: &impl Abort, doubt: bool, which: u8, script: &[u8], window
 fn another_writer_at_each_call(rt: HostRuntime) {
     expect_noticed(&rt, false, b'w', &WRITTEN, 2);
     expect_noticed(&rt, false, b'y', &SYNCED, NEVER);
-    expect_noticed(&rt, true, b'y', &DOUBTED, 5);
+    expect_noticed(&rt, true, b'y', &DOUBTED, 3);
 }
 
 /// Its calls, without another writer.

@@ -220,11 +220,11 @@ fn opening_locks_the_file(rt: HostRuntime) {
 /// A look measures the file, and reads both headers. A write is a look and a write of the sector.
 const WRITTEN: [u8; 3] = *b"mrw";
 
-/// A sync is a look, a sync and a look.
-const SYNCED: [u8; 5] = *b"mrymr";
+/// A sync is a sync and a look.
+const SYNCED: [u8; 3] = *b"ymr";
 
-/// If the device doubts, each of three sectors is read, and written after a look, between the first look and the sync.
-const DOUBTED: [u8; 17] = *b"mrrmrwrmrwrmrwymr";
+/// If the device doubts, each of three sectors is read, and written after a look, before the sync.
+const DOUBTED: [u8; 15] = *b"rmrwrmrwrmrwymr";
 
 /// Each call of a device of three sectors, and each of the file's in it that fails. A read needs no look. After a sync that failed the next
 /// one writes each sector again, and nothing else that fails makes it do so.
@@ -237,12 +237,11 @@ fn expect_each<D: Device + Drop, E: Debug>(
     expect_sectors(rt, &hill, 3);
     expect_script(rt, calls, &mut hill, b'w', &WRITTEN);
     expect_script(rt, calls, &mut hill, b'r', b"r");
-    expect_refused(rt, calls, &mut hill, b'y', &SYNCED, 0..2);
-    expect_refused(rt, calls, &mut hill, b'y', &SYNCED, 3..5);
+    expect_refused(rt, calls, &mut hill, b'y', &SYNCED, 1..3);
     expect_done(rt, calls, &mut hill, b'y', &SYNCED);
-    expect_answer(rt, calls, &mut hill, b'y', 2, Err(Fault), SYNCED.get(..3));
+    expect_answer(rt, calls, &mut hill, b'y', 0, Err(Fault), SYNCED.get(..1));
     expect_script(rt, calls, &mut hill, b'w', &WRITTEN);
-    expect_refused(rt, calls, &mut hill, b'y', &DOUBTED, 0..15);
+    expect_refused(rt, calls, &mut hill, b'y', &DOUBTED, 0..13);
     expect_done(rt, calls, &mut hill, b'y', &DOUBTED);
     expect_done(rt, calls, &mut hill, b'y', &SYNCED);
 }
