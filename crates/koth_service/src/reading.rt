@@ -23,18 +23,20 @@ pub(crate) fn read_all<S: Sockets, D: Device, A: Allocator + Copy, H: Host<D, A>
     ensures served { KeepsOn S.happened D.facts (H.shows host.now) sockets.old desk.old sockets.new desk.new }
     ensures told { Grows (E.contents errors.old) (E.contents errors.new) }
 {
+    let mut chunk = [0; CHUNK];
     for number in 0..desk.seats.len() {
-        read_from(desk, sockets, host, errors, number);
+        read_from(desk, sockets, host, errors, number, &mut chunk);
     }
 }
 
-/// Reads what a peer has room for.
+/// Reads what a peer has room for, by way of a chunk.
 fn read_from<S: Sockets, D: Device, A: Allocator + Copy, H: Host<D, A>, E: LogWrite>(
     desk: &mut Desk<D, A>,
     sockets: &mut S,
     host: &H,
     errors: &mut E,
     number: usize,
+    chunk: &mut [u8; CHUNK],
 )
     ensures served { KeepsOn S.happened D.facts (H.shows host.now) sockets.old desk.old sockets.new desk.new }
     ensures told { Grows (E.contents errors.old) (E.contents errors.new) }
@@ -43,7 +45,6 @@ fn read_from<S: Sockets, D: Device, A: Allocator + Copy, H: Host<D, A>, E: LogWr
     if room == 0 {
         return;
     }
-    let mut chunk = [0; CHUNK];
     let bytes = &mut chunk[..room];
     match sockets.read(number, bytes) {
         Came::Bytes(count) => {

@@ -22,6 +22,9 @@ use koth_session::{Judge, Step};
 use sector_disk::Device;
 use std::alloc::{AllocError, Allocator};
 
+/// Steps of a submission that are made in one round at most: those of one to a full hill, if each match is a step.
+const STEPS: u32 = 22;
+
 /// Why a service ended early.
 #[derive(Clone, Copy, Debug, PartialEq, Eq)]
 pub enum ServiceFault<F> {
@@ -132,8 +135,9 @@ fn give_out<S: Sockets, D: Device, A: Allocator + Copy, H: Host<D, A>, E: LogWri
     desk.retries |= round.retries;
 }
 
-/// Waits for peers, takes what comes from them, and carries out one command at most, or a step of a submission. What came is read before a place is given to another peer:
-/// else one would lose it whose bytes wait.
+/// Waits for peers, takes what comes from them, and carries out one command at most, or a step of a submission, and
+/// further steps as long as the clock tells the time at which bytes were read: so short ones are made together. What
+/// came is read before a place is given to another peer: else one would lose it whose bytes wait.
 fn take_in<S: Sockets, D: Device, A: Allocator + Copy, H: Host<D, A>, E: LogWrite>(
     desk: &mut Desk<D, A>,
     browsers: &Browsers<A>,
@@ -148,7 +152,17 @@ fn take_in<S: Sockets, D: Device, A: Allocator + Copy, H: Host<D, A>, E: LogWrit
     wait::<S, D, A, H>(desk, browsers, sockets);
     read_all(desk, sockets, host, errors);
     take_arrivals(desk, sockets, host, errors);
-    serve_one(desk, sockets, host, errors)
+    for _turn in 0..STEPS {
+        let step = serve_one(desk, sockets, host, errors);
+        match step {
+            Step::Stepped(_) => {}
+            _ => return step,
+        }
+        if desk.clock > desk.read_at {
+            return step;
+        }
+    }
+    Step::Nobody
 }
 
 /// Waits until something comes or may go, but not after a round in which it did. It waits no longer than a peer may be silent or a browser is
