@@ -1,4 +1,3 @@
 mod Lines
 pub mod Readings
-pub mod Comments
 pub mod SourceLines

@@ -1,5 +1,5 @@
 -- The lines of a source that are not skipped, one after another.
-use Rattle.std.proofs.{Common.{◌≡◌, ℕ, ◌+◌, ◌≤◌, List, [], ◌∷◌, ◌++◌, length, length-append, Option, None, sym, ap, ◌∙◌, append_assoc, arith, true, false, refl, eqb}, lemmas.Bool.true≢false}
+use Rattle.std.proofs.{Common.{◌≡◌, ℕ, ◌+◌, ◌≤◌, List, [], ◌∷◌, ◌++◌, length, length-append, Option, None, sym, ap, ◌∙◌, append_assoc, arith, false, refl, eqb}, lemmas.Bool.true≢false}
 use Rattle.{redcode_text.specs.{declared.token.Token.Token, Tokens.pieces}, redcode_lines.specs.declared.source.Directive.Directive}
 use Rattle.redcode_lines.specs.{Source.{directive_of, lines_of, numbered_from}, Line.{statement_tokens, SourceLine, statement}, Block.{source_lines, line_by}}
 

@@ -32,11 +32,8 @@ pub fn span_of(shift: u32, token: &Token<'_>) -> Span {
 
 /// From the first of the tokens to the last one.
 pub fn spans_of(shift: u32, tokens: &[Token<'_>]) -> Option<Span> {
-    match tokens {
-        [] => None,
-        [only] => Some(span_of(shift, only)),
-        [first, .., last] => Some(span_of(shift, first).to(span_of(shift, last))),
-    }
+    let (first, last) = (tokens.first()?, tokens.last()?);
+    Some(span_of(shift, first).to(span_of(shift, last)))
 }
 
 /// A line without the blanks in front.
@@ -49,14 +46,8 @@ pub fn whole(text: &[u8]) -> Span {
 
 /// How many blanks stand at the front.
 pub fn blanks_before(text: &[u8]) -> u32 {
-    let mut blanks: u32 = 0;
-    for byte in text {
-        if !is_blank(*byte) {
-            break;
-        }
-        blanks = blanks.saturating_add(1);
-    }
-    blanks
+    let blanks = text.iter().take_while(|byte| is_blank(**byte)).count();
+    u32::try_from(blanks).unwrap_or(u32::MAX)
 }
 
 /// A part of a text: what lies beyond it is cut off.

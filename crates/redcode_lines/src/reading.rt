@@ -86,14 +86,12 @@ pub fn behind_names<'t, 's>(tokens: &'t [Token<'s>]) -> &'t [Token<'s>]
     ensures behind { pieces result.now ≡ dropped_while is_name_token (pieces tokens.entry.now) }
     ensures short { length result.now ≤ length tokens.entry.now }
 {
-    let mut rest = tokens;
-    while let [first, behind @ ..] = rest {
-        if !is_name(first) {
-            break;
+    for (i, token) in tokens.iter().enumerate() {
+        if !is_name(token) {
+            return &tokens[i..];
         }
-        rest = behind;
     }
-    rest
+    &[]
 }
 
 /// The reserved word that a token is.
@@ -124,12 +122,10 @@ pub fn has_text(token: &Token<'_>, text: &[u8]) -> bool
 pub fn has_and(tokens: &[Token<'_>]) -> bool
     ensures { result ≡ has_and (pieces tokens.now) }
 {
-    let mut rest = tokens;
-    while let [first, behind @ ..] = rest {
-        if has_text(first, b"&") {
+    for token in tokens {
+        if has_text(token, b"&") {
             return true;
         }
-        rest = behind;
     }
     false
 }

@@ -57,15 +57,13 @@ pub fn directive_of(line: &[u8]) -> Option<(Directive, &[u8])>
     ensures found { option_map seen result ≡ directive_of line.entry.now }
     ensures short { IfSome result (λ found. length found.1.now ≤ length line.entry.now) }
 {
-    let mut rest = line;
-    while let [first, behind @ ..] = rest {
-        if *first == b';' {
-            return Some(remark_of(behind));
+    for (i, byte) in line.iter().enumerate() {
+        if *byte == b';' {
+            return Some(remark_of(&line[i + 1..]));
         }
-        if !is_blank(*first) {
+        if !is_blank(*byte) {
             break;
         }
-        rest = behind;
     }
     None
 }
@@ -92,11 +90,7 @@ fn remark_of(text: &[u8]) -> (Directive, &[u8])
 fn begins_alone(word: &[u8], text: &[u8]) -> bool
     ensures { result ≡ begins_alone word.now text.now }
 {
-    begins(word, text)
-        && match text.get(word.len()) {
-            Some(byte) => is_blank(*byte),
-            None => true,
-        }
+    begins(word, text) && text.get(word.len()).is_none_or(|byte| is_blank(*byte))
 }
 
 fn begins(word: &[u8], text: &[u8]) -> bool
@@ -110,9 +104,5 @@ fn behind(bytes: usize, text: &[u8]) -> &[u8]
     ensures behind { result.now ≡ drop bytes text.entry.now }
     ensures short { length result.now ≤ length text.entry.now }
 {
-    if bytes < text.len() {
-        &text[bytes..]
-    } else {
-        &[]
-    }
+    &text[text.len().min(bytes)..]
 }

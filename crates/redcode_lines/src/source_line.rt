@@ -1,8 +1,8 @@
 //! The lines of a source that are not skipped.
 
-ghost use Rattle.std.specs.Prelude.{◌≡◌, ◌+◌, ◌≤◌, ◌<◌, ◌++◌, ◌∷◌, [], None, length, drop, OnOk, IfOk};
-ghost use Rattle.{redcode_text.specs.Tokens.pieces, redcode_lines.specs.{Source.{directive_of, lines_of, numbered_from}, Line.{source_line, statement, statement_tokens}}};
-ghost use Rattle.redcode_lines.specs.{Block.{directive_line, line_by, source_lines}, declared.reading.LineForm.TheVariants.Assert};
+ghost use Rattle.std.specs.Prelude.{◌≡◌, ◌+◌, ◌≤◌, ◌<◌, ◌++◌, ◌∷◌, [], None, length, take, drop, OnOk, IfOk};
+ghost use Rattle.{redcode_text.specs.Tokens.pieces, redcode_lines.specs.{Source.{directive_of, lines_of, numbered_from}, Line.{source_line, statement, statement_tokens, without_comment}}};
+ghost use Rattle.redcode_lines.specs.Block.{directive_line, line_by, source_lines};
 
 use crate::reading::{LineForm, Reading, from_word};
 use crate::source::{Directive, directive_of, first_line};
@@ -126,17 +126,21 @@ fn append_directive<'s, A: Allocator + Copy>(
 {
     match directive {
         Directive::Redcode | Directive::Remark => {}
-        Directive::Name => lines.push(titled(alloc, number, LineForm::Name, text))?,
-        Directive::Author => lines.push(titled(alloc, number, LineForm::Author, text))?,
+        Directive::Name => {
+            lines.push(wordless(number, LineForm::Name, text, Vec::new(alloc)))?;
+        }
+        Directive::Author => {
+            lines.push(wordless(number, LineForm::Author, text, Vec::new(alloc)))?;
+        }
         Directive::Assert => {
             let tokens = statement_tokens(alloc, text)?;
-            lines.push(assertion(number, tokens))?;
+            lines.push(wordless(number, LineForm::Assert, b"", tokens))?;
         }
     }
     Ok(())
 }
 
-/// The tokens of a line without the comment at its end, which is its last token.
+/// The tokens of a line without the comment at its end.
 fn statement_tokens<'s, A: Allocator + Copy>(
     alloc: A,
     line: &'s [u8],
@@ -145,13 +149,21 @@ fn statement_tokens<'s, A: Allocator + Copy>(
     ensures { IfOk result (λ tokens. pieces tokens.items ≡ statement_tokens line.entry.now) }
 {
     let mut tokens = scan(alloc, line)?;
-    let Some(last) = tokens.as_slice().last() else {
-        return Ok(tokens);
-    };
-    if matches!(last.kind, TokenKind::Comment) {
-        tokens.pop();
-    }
+    let kept = before_comment(tokens.as_slice());
+    tokens.truncate(kept);
     Ok(tokens)
+}
+
+/// The number of tokens before the comment, all if there is none.
+fn before_comment(tokens: &[Token<'_>]) -> usize
+    ensures { pieces (take result tokens.now) ≡ without_comment (pieces tokens.now) }
+{
+    for (i, token) in tokens.iter().enumerate() {
+        if matches!(token.kind, TokenKind::Comment) {
+            return i;
+        }
+    }
+    tokens.len()
 }
 
 fn statement<'s, A: Allocator>(number: u32, tokens: Vec<Token<'s>, A>) -> SourceLine<'s, A>
@@ -169,33 +181,21 @@ fn statement<'s, A: Allocator>(number: u32, tokens: Vec<Token<'s>, A>) -> Source
     }
 }
 
-fn assertion<'s, A: Allocator>(number: u32, tokens: Vec<Token<'s>, A>) -> SourceLine<'s, A>
-    ensures { result ≡ source_line number Assert None [] [] (pieces tokens.entry.items) }
-{
-    SourceLine {
-        number,
-        form: LineForm::Assert,
-        word: None,
-        title: b"",
-        tokens,
-        front: 0,
-    }
-}
-
-fn titled<'s, A: Allocator>(
-    alloc: A,
+/// A line that is no statement.
+fn wordless<'s, A: Allocator>(
     number: u32,
     form: LineForm,
     title: &'s [u8],
+    tokens: Vec<Token<'s>, A>,
 ) -> SourceLine<'s, A>
-    ensures { result ≡ source_line number form None title.entry.now [] [] }
+    ensures { result ≡ source_line number form None title.entry.now [] (pieces tokens.entry.items) }
 {
     SourceLine {
         number,
         form,
         word: None,
         title,
-        tokens: Vec::new(alloc),
+        tokens,
         front: 0,
     }
 }
