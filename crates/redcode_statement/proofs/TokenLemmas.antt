@@ -31,29 +31,23 @@ bare-spaces (suc k) rest = bare-spaces k rest
 abbrev pub IsDigitByte : ℕ → Type 0
 IsDigitByte b = IsInRange 48 57 b
 
-is_digit-digit : (b : ℕ) → IsDigitByte b → is_digit b ≡ true
-is_digit-digit b h = grind (arith, nat_tests)
-
-is_letter-digit : (b : ℕ) → IsDigitByte b → is_letter b ≡ false
-is_letter-digit b h = grind (arith, nat_tests)
-
-is_blank-digit : (b : ℕ) → IsDigitByte b → is_blank b ≡ false
-is_blank-digit b h = grind (arith, nat_tests)
+digit-kinds : (b : ℕ) → IsDigitByte b → (is_digit b ≡ true) × (is_letter b ≡ false) × (is_blank b ≡ false)
+digit-kinds b h = (grind (arith, nat_tests), grind (arith, nat_tests), grind (arith, nat_tests))
 
 -- the digits in front, if no further one follows
 take_while-digits : (ds rest : List ℕ) → AllByRecursion IsDigitByte ds → take_while is_digit rest ≡ [] → take_while is_digit (ds ++ rest) ≡ ds
 take_while-digits [] rest all stops = stops
 take_while-digits (d ∷ ds) rest all stops =
-    take_while-cons is_digit d (ds ++ rest) ∙ rw (is_digit-digit d all.0, take_while-digits ds rest all.1 stops) refl
+    take_while-cons is_digit d (ds ++ rest) ∙ rw ((digit-kinds d all.0).0, take_while-digits ds rest all.1 stops) refl
 
 -- digits that no further one follows are one token
 pub bare-digits : (d : ℕ) (ds rest : List ℕ) → AllByRecursion IsDigitByte (d ∷ ds) → take_while is_digit rest ≡ []
     → bare (d ∷ (ds ++ rest)) ≡ piece TokenKind.Number (d ∷ ds) ∷ bare rest
 bare-digits d ds rest all stops =
     rw (
-      is_blank-digit d all.0,
-      is_letter-digit d all.0,
-      is_digit-digit d all.0,
+      (digit-kinds d all.0).2,
+      (digit-kinds d all.0).1,
+      (digit-kinds d all.0).0,
       take_while-digits ds rest all.1 stops,
       take_at ds rest (length ds) refl,
       tokens_after-drop 0 (length ds) (ds ++ rest),

@@ -2,7 +2,7 @@
 
 ghost use Rattle.std.specs.Prelude.{◌≡◌, ◌<◌, IfOk};
 ghost use Rattle.redcode_text.specs.Tokens.{pieces};
-ghost use Rattle.redcode_statement.specs.{Instruction.{default_modifier, reduced, instr_of, modifier_named_at, modifier_at, instruction_of}, Views.{read, result_map}};
+ghost use Rattle.redcode_statement.specs.{Instruction.{default_modifier, reduced, instr_of, modifier_at, instruction_of}, Views.{read, result_map}};
 
 use crate::operand::{Operand, operand_of, sides_of};
 use redcode_lines::has_text;
@@ -37,23 +37,12 @@ fn modifier_at<'t, 'l>(
     ensures { result_map read result ≡ modifier_at (pieces tokens.entry.now) }
 {
     match tokens {
-        [dot, behind @ ..] if has_text(dot, b".") => modifier_named_at(behind),
+        [dot, name, behind @ ..] if has_text(dot, b".") => match modifier_named(name.text) {
+            Some(modifier) => Ok((Some(modifier), behind)),
+            None => Err(AsmKind::BadModifier),
+        },
+        [dot] if has_text(dot, b".") => Err(AsmKind::BadModifier),
         _ => Ok((None, tokens)),
-    }
-}
-
-/// The modifier whose name stands there, and the tokens after it.
-fn modifier_named_at<'t, 'l>(
-    tokens: &'t [Token<'l>],
-) -> Result<(Option<Modifier>, &'t [Token<'l>]), AsmKind>
-    ensures { result_map read result ≡ modifier_named_at (pieces tokens.entry.now) }
-{
-    let [name, behind @ ..] = tokens else {
-        return Err(AsmKind::BadModifier);
-    };
-    match modifier_named(name.text) {
-        Some(modifier) => Ok((Some(modifier), behind)),
-        None => Err(AsmKind::BadModifier),
     }
 }
 
@@ -70,23 +59,14 @@ fn instr_of(
     requires { 0 < core }
     ensures { result ≡ instr_of core op modifier a b more }
 {
-    let a_value = match a.value {
-        Ok(value) => value,
-        Err(fault) => return Err(AsmKind::Expression(fault)),
-    };
-    let b_value = match b.value {
-        Ok(value) => value,
-        Err(fault) => return Err(AsmKind::Expression(fault)),
-    };
+    let a_value = a.value.map_err(AsmKind::Expression)?;
+    let b_value = b.value.map_err(AsmKind::Expression)?;
     if more {
         return Err(AsmKind::ExtraText);
     }
     Ok(Instr {
         op,
-        modifier: match modifier {
-            Some(modifier) => modifier,
-            None => default_modifier(op, a.mode, b.mode),
-        },
+        modifier: modifier.unwrap_or(default_modifier(op, a.mode, b.mode)),
         a_mode: a.mode,
         a: reduced(core, a_value),
         b_mode: b.mode,

@@ -1,6 +1,6 @@
 //! The line of an instruction in a load text.
 
-ghost use Rattle.std.specs.{Prelude.{◌≡◌, ◌<◌, ◌++◌, codes}, Fmt.signed_decimal, Result.OnOk};
+ghost use Rattle.std.specs.{Prelude.{◌≡◌, ◌<◌, ◌≤◌, ◌++◌, codes}, Fmt.signed_decimal, Result.OnOk};
 ghost use Rattle.{war_types.specs.Warrior.HasNumbersBelow, redcode_text.specs.Vocabulary.{op_text, modifier_text, mode_text}};
 ghost use Rattle.redcode_statement.specs.InstrLine.{spaces, signed_number, left_in, operand_text, instr_line};
 
@@ -75,10 +75,8 @@ fn nearest_to_zero(number: u16, core: u16) -> i32
 
 /// Appends `count` spaces.
 fn append_spaces<A: Allocator>(text: &mut Vec<u8, A>, count: usize) -> Result<(), AllocError>
+    requires { count ≤ 7 }
     ensures { OnOk result (text.new.items ≡ text.old.items ++ spaces count) }
 {
-    for _ in 0..count {
-        text.push(b' ')?;
-    }
-    Ok(())
+    text.resize(text.len() + count, b' ')
 }

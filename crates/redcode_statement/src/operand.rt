@@ -55,25 +55,14 @@ fn without_comma<'t, 'l>(op: Op, given: &'t [Token<'l>]) -> Result<Sides<'t, 'l>
     ensures { result_map sides_seen result ≡ without_comma op (pieces given.entry.now) }
 {
     let none = &given[..0];
+    let (a, b) = match (op, given) {
+        (Op::Dat | Op::Nop, []) => (none, none),
+        (_, []) => return Err(AsmKind::MissingOperand),
+        (Op::Dat, _) => (none, given),
+        (_, _) => (given, none),
+    };
     let more = false;
-    match (op, given) {
-        (Op::Dat | Op::Nop, []) => Ok(Sides {
-            a: none,
-            b: none,
-            more,
-        }),
-        (_, []) => Err(AsmKind::MissingOperand),
-        (Op::Dat, _) => Ok(Sides {
-            a: none,
-            b: given,
-            more,
-        }),
-        (_, _) => Ok(Sides {
-            a: given,
-            b: none,
-            more,
-        }),
-    }
+    Ok(Sides { a, b, more })
 }
 
 /// An operand: its mode, `$` if none is written, and the value of its expression, or what is wrong with that.
@@ -83,27 +72,20 @@ pub(crate) struct Operand {
     pub value: Result<i64, ExprFault>,
 }
 
-/// The operand if none is written.
-const DIRECT_ZERO: Operand = Operand {
-    mode: Mode::Direct,
-    value: Ok(0),
-};
-
 /// The operand of these tokens, `$0` if there are none.
 pub(crate) fn operand_of<N: Names>(tokens: &[Token<'_>], names: &N) -> Operand
     ensures { result ≡ operand_of (N.values names.now) (pieces tokens.now) }
 {
     let [first, behind @ ..] = tokens else {
-        return DIRECT_ZERO;
-    };
-    match mode_named(first.text) {
-        Some(mode) => Operand {
-            mode,
-            value: value(behind, names),
-        },
-        None => Operand {
+        return Operand {
             mode: Mode::Direct,
-            value: value(tokens, names),
-        },
-    }
+            value: Ok(0),
+        };
+    };
+    let (mode, expression) = match mode_named(first.text) {
+        Some(mode) => (mode, behind),
+        None => (Mode::Direct, tokens),
+    };
+    let value = value(expression, names);
+    Operand { mode, value }
 }

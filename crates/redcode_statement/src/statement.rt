@@ -93,8 +93,5 @@ fn value_or_missing<N: Names>(tokens: &[Token<'_>], names: &N) -> Result<i64, As
     if tokens.is_empty() {
         return Err(AsmKind::MissingOperand);
     }
-    match value(tokens, names) {
-        Ok(value) => Ok(value),
-        Err(fault) => Err(AsmKind::Expression(fault)),
-    }
+    value(tokens, names).map_err(AsmKind::Expression)
 }
