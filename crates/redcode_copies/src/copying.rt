@@ -144,14 +144,12 @@ fn behind_names<'t, 's>(tokens: &'t [Joined<'s>]) -> &'t [Joined<'s>]
     ensures behind { result.now ≡ dropped_while is_label tokens.entry.now }
     ensures short { length result.now ≤ length tokens.entry.now }
 {
-    let mut rest = tokens;
-    while let [first, behind @ ..] = rest {
-        if !is_name(&first.token) {
-            break;
+    for (i, joined) in tokens.iter().enumerate() {
+        if !is_name(&joined.token) {
+            return &tokens[i..];
         }
-        rest = behind;
     }
-    rest
+    &[]
 }
 
 /// The tokens, in which each name that an `&` and the counter follow is joined to the number, and whether each was joined.

@@ -28,12 +28,10 @@ pub trait Counters {
 pub fn has_counter<C: Counters>(counters: &C, tokens: &[Token<'_>]) -> bool
     ensures { result ≡ has_number (C.counters counters.now) (pieces tokens.now) }
 {
-    let mut rest = tokens;
-    while let [first, behind @ ..] = rest {
-        if is_name(first) && counters.number_of(first.text).is_some() {
+    for token in tokens {
+        if is_name(token) && counters.number_of(token.text).is_some() {
             return true;
         }
-        rest = behind;
     }
     false
 }
