@@ -7,7 +7,7 @@ ghost use Rattle.hill_file.specs.OpenFault.{IsOfSystem, IsWhateverHeld};
 use crate::careful_device::CarefulDevice;
 use crate::lock::{TryLock, require_held};
 use crate::open_fault::OpenFault;
-use crate::placed_file::{PlacedFile, Sharing};
+use crate::placed_file::{PlacedFile, Sharing, opened};
 use crate::zeros::{require_zeros, write_zeros};
 use sector_disk::{Device, sync_name};
 use std::alloc::Allocator;
@@ -50,9 +50,7 @@ where
         ensures shared { sharing ≡ Sharing.Shared → IfErr result IsOfSystem }
         ensures held { IfErr result IsWhateverHeld }
     {
-        let mut options = File::options();
-        options.read(true).write(true);
-        let handle = options.open(rt, path)?;
+        let handle = opened(rt, path)?;
         match sharing {
             Sharing::Alone => handle.lock_now()?,
             Sharing::Shared => {}
@@ -146,7 +144,6 @@ where
     handle.lock_now()?;
     require_held(rt, path)?;
     write_zeros(&mut handle, sectors)?;
-    handle.sync_all()?;
     let file = PlacedFile {
         rt,
         path,
@@ -191,8 +188,7 @@ fn fill<F: OpenFile + io::Read + io::Write + io::Seek>(
     ensures { existing ≡ Existing.Overwritten → IfErr result IsOfSystem }
 {
     clear(file, existing)?;
-    write_zeros(file, sectors)?;
-    Ok(file.sync_all()?)
+    Ok(write_zeros(file, sectors)?)
 }
 
 /// Makes a file ready for zeros: one that is kept holds nothing else, and one that is overwritten is emptied.

@@ -4,6 +4,7 @@
 ghost use Rattle.{std.specs.Prelude.IfErr, hill_file.specs.OpenFault.{IsOfSystem, IsWhateverHeld}};
 
 use crate::open_fault::OpenFault;
+use crate::placed_file::opened;
 use std::fs::{File, Files, TryLockError};
 use std::io::ErrorKind;
 use std::os::unix::fs::FileExt;
@@ -32,10 +33,7 @@ where
     R::File: TryLock,
     ensures { IfErr result IsOfSystem }
 {
-    let mut options = File::options();
-    options.read(true).write(true);
-    let handle = options.open(rt, path)?;
-    match handle.lock_now() {
+    match opened(rt, path)?.lock_now() {
         Err(OpenFault::Locked) => Ok(()),
         Ok(()) => Err(OpenFault::Failed(ErrorKind::Unsupported)),
         Err(fault) => Err(fault),

@@ -7,10 +7,10 @@ ghost use Rattle.hill_file.specs.OpenFault.{IsOfSystem, IsWhateverHeld};
 use crate::device::Existing;
 use crate::lock::TryLock;
 use crate::open_fault::OpenFault;
-use crate::placed_file::is_same_file;
+use crate::placed_file::{is_same_file, opened};
 use crate::zeros::require_zeros;
 use std::alloc::{AllocError, Allocator};
-use std::fs::{File, Files, OpenFile};
+use std::fs::{Files, OpenFile};
 use std::io::ErrorKind;
 use std::os::unix::fs::MetadataExt;
 use std::path::Path;
@@ -162,16 +162,22 @@ where
     R::File: TryLock,
     ensures { IfErr result IsWhateverHeld }
 {
-    let mut options = File::options();
-    options.read(true).write(true);
-    let file = match options.open(rt, path) {
-        Ok(file) => file,
-        Err(error) if error.kind() == ErrorKind::NotFound => return Ok(None),
-        Err(error) => return Err(OpenFault::from(error)),
-    };
+    match opened(rt, path) {
+        Ok(file) => {
+            lock_file(&file)?;
+            Ok(Some(file))
+        }
+        Err(OpenFault::Failed(ErrorKind::NotFound)) => Ok(None),
+        Err(fault) => Err(fault),
+    }
+}
+
+/// Takes the lock of what has to be a file.
+fn lock_file<F: OpenFile + TryLock>(file: &F) -> Result<(), OpenFault>
+    ensures { IfErr result IsWhateverHeld }
+{
     if !file.metadata()?.is_file() {
         return Err(OpenFault::Failed(ErrorKind::InvalidInput));
     }
-    file.lock_now()?;
-    Ok(Some(file))
+    file.lock_now()
 }

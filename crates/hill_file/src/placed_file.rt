@@ -1,12 +1,13 @@
 //! The file that a path leads to.
 
-ghost use Rattle.std.specs.Prelude.{◌≡◌, ⊤, Ok, false, IsErr};
-ghost use Rattle.hill_file.specs.Done.{Looks, Writes};
+ghost use Rattle.std.specs.Prelude.{◌≡◌, ⊤, Ok, false, IfErr, IsErr};
+ghost use Rattle.hill_file.specs.{Done.{Looks, Writes}, OpenFault.IsOfSystem};
 
 use crate::lock::TryLock;
+use crate::open_fault::OpenFault;
 use crate::sector_file::{Headers, SectorFile};
 use sector_disk::{Fault, SECTOR_BYTES};
-use std::fs::{Files, Metadata, OpenFile};
+use std::fs::{File, Files, Metadata, OpenFile};
 use std::io;
 use std::os::unix::fs::{FileExt, MetadataExt};
 
@@ -20,6 +21,16 @@ pub enum Sharing {
     Alone,
     /// Its lock is neither taken nor looked at. The file is read alone: another program may change its headers, and each write is a fault.
     Shared,
+}
+
+/// The file at this path, opened to be read and written. It has to be there.
+#[tactic(auto, using(crate::proofs::OfSystem::fault_of_system))]
+pub(crate) fn opened<R: Files>(rt: &R, path: &str) -> Result<R::File, OpenFault>
+    ensures { IfErr result IsOfSystem }
+{
+    let mut options = File::options();
+    options.read(true).write(true);
+    Ok(options.open(rt, path)?)
 }
 
 /// An open file, and the path that has to lead to it.

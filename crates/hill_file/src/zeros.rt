@@ -38,12 +38,15 @@ fn are_zeros(bytes: &[u8]) -> bool
     bytes.iter().all(|byte| *byte == 0)
 }
 
-/// Writes this many sectors of zeros at the front of the file. They are written and not only counted in its length, so that a full disk
-/// shows here.
-pub(crate) fn write_zeros<F: Write + Seek>(file: &mut F, sectors: u32) -> io::Result<()> {
+/// Writes this many sectors of zeros at the front of the file, and syncs it. They are written and not only counted in its length, so that a
+/// full disk shows here.
+pub(crate) fn write_zeros<F: OpenFile + Write + Seek>(
+    file: &mut F,
+    sectors: u32,
+) -> io::Result<()> {
     file.seek(SeekFrom::Start(0))?;
     for _ in 0..sectors {
         file.write_all(&[0; 512])?;
     }
-    Ok(())
+    file.sync_all()
 }
