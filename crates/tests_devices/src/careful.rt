@@ -6,7 +6,7 @@ use crate::calls::{expect_same, expect_sectors};
 use crate::file_calls::{NEVER, call, expect_calls, expect_done};
 use crate::watched::{Calls, forget, note};
 use hill_file::{CarefulDevice, Headers, SectorFile};
-use sector_disk::Fault;
+use sector_disk::{Device, Fault};
 use std::cell::Cell;
 use std::process::Abort;
 
@@ -17,6 +17,12 @@ struct Held {
     /// The number of the call before which that is.
     other: usize,
 }
+
+/// Nothing so far.
+const BLANK: Held = Held {
+    bytes: [0; 3],
+    other: NEVER,
+};
 
 /// A file in memory. It writes its calls down: `m`easured, the `h`eaders read, a sector `r`ead or `w`ritten, s`y`nced.
 #[derive(Drop)]
@@ -120,24 +126,38 @@ fn opened<'c>(
     device
 }
 
+/// How a call of a device ends, and what the first sector holds then, if another program writes to it before the call `other` of the file's.
+fn ended_beside(
+    rt: &impl Abort,
+    held: &Cell<Held>,
+    calls: &Cell<Calls>,
+    doubt: bool,
+    which: u8,
+    other: usize,
+) -> (Result<(), Fault>, u8) {
+    let mut device = opened(rt, held, calls, doubt);
+    begin(held, calls, other);
+    let answer = call(&mut device, which);
+    drop(device);
+    let [first, _, _] = held.get().bytes;
+    (answer, first)
+}
+
 /// Another program writes to the first sector before each of these calls in turn. The next look notices it, and what it wrote stays as it is.
 /// The one exception is the call `window`, the write right after a look; there is none if that is `NEVER`.
 fn expect_noticed(rt: &impl Abort, doubt: bool, which: u8, script: &[u8], window: usize) {
-    let held = Cell::new(Held {
-        bytes: [0; 3],
-        other: NEVER,
-    });
+    let held = Cell::new(BLANK);
     let calls = Cell::new(Calls::none(NEVER));
     for other in 0..script.len() {
-        let mut device = opened(rt, &held, &calls, doubt);
-        begin(&held, &calls, other);
-        let answer = call(&mut device, which);
-        drop(device);
-        let due = if other == window { Ok(()) } else { Err(Fault) };
-        expect_same(rt, &answer, &due, format_args!("before call {other}"));
-        let [first, _, _] = held.get().bytes;
+        let found = ended_beside(rt, &held, &calls, doubt, which, other);
+        let answer = if other == window { Ok(()) } else { Err(Fault) };
         let stands = if doubt && other == window { 1 } else { 9 };
-        expect_same(rt, &first, &stands, format_args!("before call {other}"));
+        expect_same(
+            rt,
+            &found,
+            &(answer, stands),
+            format_args!("before call {other}"),
+        );
     }
 }
 
@@ -150,18 +170,19 @@ fn another_writer_at_each_call(rt: HostRuntime) {
     expect_noticed(&rt, true, b'y', &DOUBTED, 3);
 }
 
-/// Its calls, without another writer.
+/// The calls of a device in doubt, without another writer.
+fn expect_each<D: Device>(rt: &impl Abort, calls: &Cell<Calls>, device: &mut D) {
+    expect_done(rt, calls, device, b'w', &WRITTEN);
+    expect_done(rt, calls, device, b'y', &DOUBTED);
+    expect_done(rt, calls, device, b'y', &SYNCED);
+}
+
 #[test]
 fn calls_of_a_careful_device(rt: HostRuntime) {
-    let held = Cell::new(Held {
-        bytes: [0; 3],
-        other: NEVER,
-    });
+    let held = Cell::new(BLANK);
     let calls = Cell::new(Calls::none(NEVER));
     let mut device = opened(&rt, &held, &calls, true);
-    expect_done(&rt, &calls, &mut device, b'w', &WRITTEN);
-    expect_done(&rt, &calls, &mut device, b'y', &DOUBTED);
-    expect_done(&rt, &calls, &mut device, b'y', &SYNCED);
+    expect_each(&rt, &calls, &mut device);
     drop(device);
     expect_same(&rt, &held.get().bytes, &[1, 7, 3], "what it holds");
 }

@@ -129,10 +129,9 @@ pub(crate) fn expect_answer<D: Device>(
 ) {
     let faults = device.faults().saturating_add(u64::from(answer.is_err()));
     forget(calls, fails_at);
-    let found = call(device, which);
-    expect_same(rt, &found, &answer, format_args!("at {fails_at}"));
+    let found = (call(device, which), device.faults());
+    expect_same(rt, &found, &(answer, faults), format_args!("at {fails_at}"));
     expect_calls(rt, calls, letters);
-    expect_faults(rt, device, faults);
 }
 
 /// This call of a device makes these calls of the file, and each of these that fails is a fault.

@@ -3,8 +3,7 @@
 
 use crate::calls::{Step, expect_faults};
 use crate::deeds::Deed;
-use crate::hill_files::expect_made;
-use crate::places::{Turn, by_turns, on_hill, place, take_turns};
+use crate::places::{Turn, on_hill, on_opened, place, take_turns};
 use hill_file::{Existing, HillFile, Sharing};
 use sector_disk::{Device, FuseDevice, FuseKind};
 use std::fmt::Debug;
@@ -64,11 +63,7 @@ const CUT: [Turn<'static>; 10] = [
 
 #[test]
 fn a_cut_file(rt: HostRuntime) {
-    let place = place(&rt, rt.process(), "hill-cut");
-    let path = place.as_str();
-    expect_made(&rt, path, 3, Existing::Kept, Ok(3));
-    let hill = HillFile::open(&rt, path, Sharing::Alone);
-    by_turns(&rt, hill, "it is opened", path, &CUT);
+    on_opened(&rt, rt.process(), "hill-cut", 3, Sharing::Alone, &CUT);
 }
 
 /// Another file's bytes are copied into it: they stay as they are. When the first ones are back, it is synced.
@@ -104,11 +99,14 @@ const BESIDE: [Turn<'static>; 7] = [
 
 #[test]
 fn a_shared_file(rt: HostRuntime) {
-    let place = place(&rt, rt.process(), "hill-beside");
-    let path = place.as_str();
-    expect_made(&rt, path, 3, Existing::Kept, Ok(3));
-    let hill = HillFile::open(&rt, path, Sharing::Shared);
-    by_turns(&rt, hill, "it is opened", path, &BESIDE);
+    on_opened(
+        &rt,
+        rt.process(),
+        "hill-beside",
+        3,
+        Sharing::Shared,
+        &BESIDE,
+    );
 }
 
 /// A file of one sector has no room for headers.
@@ -121,11 +119,7 @@ const SMALL: [Turn<'static>; 4] = [
 
 #[test]
 fn a_small_file(rt: HostRuntime) {
-    let place = place(&rt, rt.process(), "hill-small");
-    let path = place.as_str();
-    expect_made(&rt, path, 1, Existing::Kept, Ok(1));
-    let hill = HillFile::open(&rt, path, Sharing::Alone);
-    by_turns(&rt, hill, "it is opened", path, &SMALL);
+    on_opened(&rt, rt.process(), "hill-small", 1, Sharing::Alone, &SMALL);
 }
 
 /// A path that is a link leads to the file.

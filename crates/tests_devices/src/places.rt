@@ -2,7 +2,8 @@
 
 use crate::calls::{Step, take, take_all};
 use crate::deeds::Deed;
-use hill_file::{Existing, HillFile};
+use crate::hill_files::expect_made;
+use hill_file::{Existing, HillFile, Sharing};
 use sector_disk::Device;
 use std::env;
 use std::fmt::Debug;
@@ -105,6 +106,33 @@ fn on_new_hill<'f, R: Files<File = File> + AllocGlobal + Abort>(
 ) {
     let hill = HillFile::make(rt, rt.alloc(), path, 3, Existing::Kept);
     by_turns(rt, hill, "it is made", path, turns);
+}
+
+/// These turns are taken on a hill's file that is opened.
+fn on_opened_hill<'f, R: Files<File = File> + AllocGlobal + Abort>(
+    rt: &'f R,
+    path: &'f str,
+    sharing: Sharing,
+    turns: &[Turn<'_>],
+) {
+    let hill = HillFile::open(rt, path, sharing);
+    by_turns(rt, hill, "it is opened", path, turns);
+}
+
+/// A hill's file of this number of sectors is made at a place of this name, and opened, and these turns are taken on it.
+pub(crate) fn on_opened(
+    rt: &(impl Files<File = File> + Env + AllocGlobal + Abort),
+    process: Process,
+    name: &str,
+    sectors: u32,
+    sharing: Sharing,
+    turns: &[Turn<'_>],
+) {
+    let place = place(rt, process, name);
+    let path = place.as_str();
+    expect_made(rt, path, sectors, Existing::Kept, Ok(sectors));
+    on_opened_hill(rt, path, sharing, turns);
+    drop(place);
 }
 
 /// Before a hill's file of three sectors is made at a place of this name, and after the turns that are taken on it, these deeds are done.
