@@ -1,6 +1,6 @@
 -- The number of a kind's handler: its place in the list of kinds, and what it tells of the kind. For `place_of` of src/word.rt and the handlers.
-use Rattle.std.proofs.Common.{◌≡◌, ◌≢◌, ℕ, zero, suc, ◌+◌, ◌-◌, ◌<◌, ◌≤◌, Bool, if◌then◌else◌, inl, inr, List, [], ◌∷◌, length, get_or, refl, sym, ap, subst, ◌∙◌, arith}
-use Rattle.std.proofs.lemmas.Bool.{eq-eqb, ne_eqb, Decides.eqb_tells}
+use Rattle.std.proofs.Common.{◌≡◌, ◌≢◌, ℕ, zero, suc, ◌+◌, ◌-◌, ◌*◌, ◌/◌, ◌%◌, ◌<◌, ◌≤◌, Bool, true, ◌==◌, if◌then◌else◌, inl, inr, List, [], ◌∷◌, length, get_or, refl, sym, ap, subst, ◌∙◌, arith}
+use Rattle.{std.specs.{Prelude.nat_lt, List.list_all}, std.proofs.lemmas.{Bool.{eq-eqb, ne_eqb, eqb-true, agree_below, agree_below_at, cases_lt, le-ltb, Decides.eqb_tells}, List.Folds.list_all_at}}
 use Rattle.{war_types.specs.declared.instr.Instr.Instr, mars_words.specs.Words.{kind_code, kinds, place_from, handler_at, handler_of}}
 
 -- what a list has at the place at which it has a number
@@ -35,13 +35,45 @@ place_from-none n place (x ∷ xs) none =
     ap (λ (b : Bool). if b then place else place_from n (place + 1) xs) (ne_eqb x n (none 0 (omega arith)))
     ∙ place_from-none n (place + 1) xs (λ j below. none (suc j) (omega (arith, below)))
 
-pub handler_at-found : (kind k : ℕ) → k < 128 → get_or kinds k 0 ≡ kind → ((j : ℕ) → j < k → get_or kinds j 0 ≢ kind) → handler_at kind ≡ k
+handler_at-found : (kind k : ℕ) → k < 128 → get_or kinds k 0 ≡ kind → ((j : ℕ) → j < k → get_or kinds j 0 ≢ kind) → handler_at kind ≡ k
 unfolding handler_at kinds
 handler_at-found kind k inside is before = place_from-found kind 0 k kinds inside is before ∙ omega arith
 
-pub handler_at-none : (kind : ℕ) → ((j : ℕ) → j < 128 → get_or kinds j 0 ≢ kind) → handler_at kind ≡ 0
+handler_at-none : (kind : ℕ) → ((j : ℕ) → j < 128 → get_or kinds j 0 ≢ kind) → handler_at kind ≡ 0
 unfolding handler_at kinds
 handler_at-none kind none = place_from-none kind 0 kinds none
+
+-- ---- a table of places
+
+-- where a table has the place of a kind
+abbrev pub slot : ℕ → ℕ
+slot kind = kind * 2905 / 256 % 512
+
+-- it has each place at the slot of its kind
+abbrev pub has_places : List ℕ → Bool
+has_places places = agree_below (λ j. get_or places (slot (get_or kinds j 0)) 0 == j) (λ j. true) 128
+
+place-first : (places : List ℕ) (kind place j : ℕ) → has_places places ≡ true → place ≡ get_or places (slot kind) 0 → j < 128 → get_or kinds j 0 ≡ kind → j ≡ place
+place-first places kind place j has is below same =
+    let test = agree_below_at (λ k. get_or places (slot (get_or kinds k 0)) 0 == k) (λ k. true) 128 j has below in
+    sym (eqb-true _ _ test) ∙ ap (λ (k : ℕ). get_or places (slot k) 0) same ∙ sym is
+
+pub place-within : (places : List ℕ) (kind place : ℕ) → list_all (λ p. nat_lt p 128) places ≡ true → length places ≡ 512 → place ≡ get_or places (slot kind) 0 → place < 128
+place-within places kind place small long is =
+    elim (cases_lt (get_or places (slot kind) 0) 128) [
+      | inl below ↦ omega (arith, below, is)
+      | inr past ↦
+          (let wrong = list_all_at (λ p. nat_lt p 128) places (slot kind) 0 (omega (arith, long)) (le-ltb _ _ past) in
+          cc)
+    ]
+
+pub place-found : (places : List ℕ) (kind place : ℕ) → has_places places ≡ true → place ≡ get_or places (slot kind) 0 → place < 128 → get_or kinds place 0 ≡ kind → handler_at kind ≡ place
+place-found places kind place has is below found =
+    handler_at-found kind place below found (λ j before same. omega (arith, place-first places kind place j has is (omega (arith, before, below)) same, before))
+
+pub place-other : (places : List ℕ) (kind place : ℕ) → has_places places ≡ true → place ≡ get_or places (slot kind) 0 → get_or kinds place 0 ≢ kind → handler_at kind ≡ 0
+place-other places kind place has is other =
+    handler_at-none kind (λ j below same. other (ap (λ (k : ℕ). get_or kinds k 0) (sym (place-first places kind place j has is below same)) ∙ same))
 
 -- a place is inside of the list
 place-below : (n place : ℕ) (xs : List ℕ) → 0 < place + length xs → place_from n place xs < place + length xs

@@ -5,7 +5,7 @@ ghost use Rattle.war_types.specs.Warrior.{HasNumbersBelow};
 ghost use Rattle.mars_words.specs.{Numbers.{number, with_number}, Equal.are_equal, Code.field_of, Words.{Word, IsWord, word_in, op_at, modifier_at, mode_at, is_plain, kind_code, handler_at, handler_of}};
 
 use crate::field::Field;
-use crate::kinds::KINDS;
+use crate::kinds::{KINDS, PLACES};
 use std::marker::Model;
 use war_types::{Instr, Mode, Modifier, Op};
 
@@ -193,7 +193,8 @@ impl Word {
 
 /// The operation, the modifier and both modes.
 fn kind_of(i: Instr) -> u64
-    ensures { result ≡ kind_code i }
+    ensures value { result ≡ kind_code i }
+    ensures small { result < 8192 }
 {
     u64::from(i.b_mode.code())
         + u64::from(i.a_mode.code()) * 8
@@ -203,14 +204,15 @@ fn kind_of(i: Instr) -> u64
 
 /// The number of a kind's handler.
 fn place_of(kind: u64) -> u64
+    requires { kind < 8192 }
     ensures { result ≡ handler_at kind }
 {
-    for place in 0..KINDS.len() {
-        if u64::from(KINDS[place]) == kind {
-            return place as u64;
-        }
+    let place = u64::from(PLACES[(kind * 2905 / 256 % 512) as usize]);
+    if u64::from(KINDS[place as usize]) == kind {
+        place
+    } else {
+        0
     }
-    0
 }
 
 /// A number in 64 bits: it takes the lowest 16.
