@@ -5,8 +5,8 @@ use Rattle.{std.proofs.lemmas.List.Elements.{All-weaker, All-cons, All-nil, All-
 use Rattle.{koth_match.specs.{declared.bout.Bout.Bout, Match.rounds_in}, koth_hill.specs.{declared.standings.Standing.Standing, declared.verdict.Verdict.Verdict}}
 use Rattle.koth_hill.specs.{Hill.{Member, Hill, AllFit, MayStand, IsHill, member_of, last_entry}, Step.{challenger, enlarged, falling_by, stays_by}}
 use Rattle.koth_hill.specs.Kept.{Kept, Entrant, AreRows, IsKept, entrant_of, entries_of, hill_in, kept_of, members_of, rows_of, fresh, known, kept_fall, kept_stay, result_of, step_kept, verdict_kept}
-use Rattle.koth_hill.specs.Standings.{StandingParts, HaveRounds, judged_among, kept_in, entries_in, rows_in, result_in_standings, standing_of, standing_parts}
-use Rattle.koth_hill.proofs.{Members.IsHill-put_back, ByEntry.{kept_among, entries-entrants, rows-entrants}, Judged.{judged_in, judged-found}, RowsKept.{AreRows-push, matches-rounds}}
+use Rattle.koth_hill.specs.Standings.{StandingParts, AreApart, AreStandings, HaveRounds, IsLast, entry_at, judged_among, kept_in, entries_in, rows_in, result_in_standings, standing_of, standing_parts}
+use Rattle.koth_hill.proofs.{Admitted.enlarged-rising, Looked.entries-apart, Members.IsHill-put_back, ByEntry.{kept_among, entries-entrants, rows-entrants}, Judged.{judged_in, judged-found}, RowsKept.{AreRows-push, matches-rounds}}
 use Rattle.koth_hill.proofs.Verdicts.{verdict-stays}
 
 -- ---- those on a hill fit, are few, and have the rounds of the settings
@@ -71,7 +71,7 @@ judged-kept k es ss own w capacity members rows is most are =
     count = sym (length-map all (λ (s : StandingParts). s.entry)) ∙ ap length entries-all ∙ length-map (enlarged h w) (λ (m : Member). m.entry)
 
 -- a challenger's matches, and those on the hill, have no more rounds than are counted
-pub rounds-judged : (k : Kept) (es : List Entrant) (ss : List Standing) (own : StandingParts) (w : WarriorParts) → IsKept k → rows_of es ≡ k.results → own.bouts ≡ fresh k w →
+rounds-judged : (k : Kept) (es : List Entrant) (ss : List Standing) (own : StandingParts) (w : WarriorParts) → IsKept k → rows_of es ≡ k.results → own.bouts ≡ fresh k w →
     map standing_parts ss ≡ map standing_of es ++ own ∷ [] → HaveRounds (map standing_parts ss)
 rounds-judged k es ss own w is rows matches are =
     let P : List (List Bout) → Type 0 = λ xs. All (λ row. All (λ b. rounds_in b ≤ 1000) row) xs in
@@ -81,6 +81,32 @@ rounds-judged k es ss own w is rows matches are =
     (sym (ap (map (λ (s : StandingParts). s.bouts)) are ∙ map-append (λ (s : StandingParts). s.bouts) (map standing_of es) (own ∷ [])
     ∙ ap₂ (λ (xs : List (List Bout)) (row : List Bout). xs ++ row ∷ []) (rows-entrants es ∙ rows) matches))
     (All-push (λ row. All (λ b. rounds_in b ≤ 1000) row) k.results (fresh k w) (rounds-kept k is) own-rounds)
+
+pub standings-judged : (k : Kept) (es : List Entrant) (ss : List Standing) (own : StandingParts) (w : WarriorParts) → IsKept k → members_of es ≡ k.members → rows_of es ≡ k.results →
+    own.entry ≡ k.counter + 1 → own.bouts ≡ fresh k w → map standing_parts ss ≡ map standing_of es ++ own ∷ [] → AreStandings (map standing_parts ss)
+standings-judged k es ss own w is members rows entry matches are = record {
+  rounds = rounds-judged k es ss own w is rows matches are;
+  apart = subst AreApart (sym all) (entries-apart (enlarged (hill_in k) w) (enlarged-rising (hill_in k) w is.hill));
+}
+  where
+    all : entries_in (map standing_parts ss) ≡ entries_of (enlarged (hill_in k) w)
+    all =
+        ap entries_in are ∙ map-append (λ (s : StandingParts). s.entry) (map standing_of es) (own ∷ [])
+        ∙ ap₂ (λ (xs : List ℕ) (e : ℕ). xs ++ e ∷ []) (entries-entrants es ∙ ap entries_of members) entry
+        ∙ sym (map-append (λ (m : Member). m.entry) k.members (challenger (hill_in k) w ∷ []))
+
+pub last-judged : (ss : List Standing) (xs : List StandingParts) (own : StandingParts) → map standing_parts ss ≡ xs ++ own ∷ [] → IsLast ss own.entry
+last-judged ss xs own are = record {
+  some = omega (arith, count);
+  is = ap₂ entry_at are (omega (arith, count)) ∙ pushed xs;
+}
+  where
+    count : length ss ≡ length xs + 1
+    count = sym (length-map ss standing_parts) ∙ ap length are ∙ length_push xs own
+
+    pushed : (ys : List StandingParts) → entry_at (ys ++ own ∷ []) (length ys) ≡ own.entry
+    pushed [] = refl
+    pushed (y ∷ ys) = pushed ys
 
 -- ---- what is kept of two
 
@@ -93,10 +119,16 @@ bout-kept seen now es ss older younger found same members rows are is =
 
 -- ---- a table
 
-pub rounds-members : (k : Kept) (es : List Entrant) → IsKept k → rows_of es ≡ k.results → HaveRounds (map standing_of es)
+rounds-members : (k : Kept) (es : List Entrant) → IsKept k → rows_of es ≡ k.results → HaveRounds (map standing_of es)
 rounds-members k es is rows =
     let P : List (List Bout) → Type 0 = λ xs. All (λ row. All (λ b. rounds_in b ≤ 1000) row) xs in
     subst P (sym (rows-entrants es ∙ rows)) (rounds-kept k is)
+
+pub standings-members : (k : Kept) (es : List Entrant) → IsKept k → members_of es ≡ k.members → rows_of es ≡ k.results → AreStandings (map standing_of es)
+standings-members k es is members rows = record {
+  rounds = rounds-members k es is rows;
+  apart = subst AreApart (sym (entries-entrants es ∙ ap entries_of members)) (entries-apart k.members is.hill.rising);
+}
 
 -- ---- none on the hill
 

@@ -3,7 +3,7 @@ use Rattle.std.proofs.Common.{◌≡◌, ℕ, ◌+◌, ◌<◌, inl, inr, Bool, 
 use Rattle.{std.proofs.Common.{append_assoc, append-nil, get_or, slice_get, position}, std.specs.{Prelude.{◌==◌, nat_lt}, List.position_or_len}}
 use Rattle.std.proofs.{lemmas.Bool.{lt-ltb, eq-eqb, eqb-true, ne_eqb, cond-true}, lemmas.List.get_or-map, lemmas.List.Quantifiers.position-Some, lemmas.Option.{slice_get-get_or, slice_get_within}}
 use Rattle.{war_types.specs.declared.settings.RawSettings.RawSettings, koth_match.specs.{declared.bout.Bout.Bout, Match.match_of}, koth_hill.specs.{Hill.{Member, RiseFrom, fights}, Step.matches_with}}
-use Rattle.{koth_hill.specs.{Kept.{fought_from, result_in, result_at, or_no_rounds, place_of, kept_results, entries_of}, Laws.In}, koth_hill.proofs.Agrees.Agree}
+use Rattle.{koth_hill.specs.{Kept.{fought_from, result_in, result_at, or_no_rounds, place_of, kept_results, entries_of}, Laws.In, Standings.AreApart}, koth_hill.proofs.Agrees.Agree}
 
 -- ---- places
 
@@ -83,6 +83,14 @@ placed ms entry n d found =
       slice_get-get_or ms n d within,
       sym (get_or-map (λ (m : Member). m.entry) ms n d d.entry within) ∙ eqb-true (get_or (entries_of ms) n d.entry) entry there.1,
     )
+
+-- no entry stands at two places
+pub entries-apart : (ms : List Member) → RiseFrom 0 ms → AreApart (entries_of ms)
+entries-apart [] rising i within = absurd (omega (arith, within))
+entries-apart (m ∷ ms) rising i within =
+    let inside : i < length (m ∷ ms) = omega (arith, within, length-entries (m ∷ ms)) in
+    let entry : get_or (entries_of (m ∷ ms)) i 0 ≡ (get_or (m ∷ ms) i m).entry = get_or-map (λ (x : Member). x.entry) (m ∷ ms) i m 0 inside in
+    ap (place_of (entries_of (m ∷ ms))) entry ∙ place_of-at (m ∷ ms) i (get_or (m ∷ ms) i m) rising (slice_get-get_or (m ∷ ms) i m inside)
 
 -- who has the lower entry has the lower place
 pub places-rise : (before : ℕ) (ms : List Member) (i j : ℕ) (o y : Member) → RiseFrom before ms → slice_get ms i ≡ Some o → slice_get ms j ≡ Some y → o.entry < y.entry → i < j

@@ -1,7 +1,7 @@
 -- Entries with their results, which are all that scores need of a hill.
-use Rattle.std.specs.Prelude.{ℕ, ◌+◌, ◌≤◌, nat_lt, if◌then◌else◌, List, [], ◌∷◌, length, map, All, Option, None, Some, true, false}
+use Rattle.std.specs.Prelude.{◌≡◌, ℕ, ◌+◌, ◌-◌, ◌<◌, ◌≤◌, nat_lt, if◌then◌else◌, List, [], ◌∷◌, length, get_or, map, All, Option, None, Some, true, false}
 use Rattle.{koth_match.specs.{declared.bout.Bout.Bout, Match.rounds_in}, koth_hill.specs.{declared.score.Score.Score, declared.standings.Standing.Standing, declared.verdict.Verdict.Verdict}}
-use Rattle.koth_hill.specs.{Scores.{rank_among, last_among}, Hill.{older_points, younger_points}, Step.is_entry, Kept.{Entrant, result_of, or_no_rounds}}
+use Rattle.koth_hill.specs.{Scores.{rank_among, last_among}, Hill.{older_points, younger_points}, Step.is_entry, Kept.{Entrant, place_of, result_of, or_no_rounds}}
 
 -- an entry, and its results with those before it
 pub record StandingParts : Type 0 where
@@ -19,6 +19,9 @@ entries_in ss = map (λ s. s.entry) ss
 
 abbrev pub rows_in : List StandingParts → List (List Bout)
 rows_in ss = map (λ s. s.bouts) ss
+
+abbrev pub entry_at : List StandingParts → ℕ → ℕ
+entry_at ss place = get_or (entries_in ss) place 0
 
 abbrev pub result_in_standings : List StandingParts → ℕ → ℕ → Option Bout
 result_in_standings ss older younger = result_of (entries_in ss) (rows_in ss) older younger
@@ -49,6 +52,19 @@ scores_among r es = map (score_among r es) es
 -- no result has over 1,000 rounds
 abbrev pub HaveRounds : List StandingParts → Type 0
 HaveRounds ss = All (λ row. All (λ b. rounds_in b ≤ 1000) row) (rows_in ss)
+
+-- no entry stands at two places
+abbrev pub AreApart : List ℕ → Type 0
+AreApart entries = (i : ℕ) → i < length entries → place_of entries (get_or entries i 0) ≡ Some i
+
+pub record AreStandings (ss : List StandingParts) : Type 0 where
+  pub rounds : HaveRounds ss
+  pub apart : AreApart (entries_in ss)
+
+-- the last of them has this entry
+pub record IsLast (ss : List Standing) (entry : ℕ) : Type 0 where
+  pub some : 1 ≤ length ss
+  pub is : entry_at (map standing_parts ss) (length ss - 1) ≡ entry
 
 -- ---- verdicts
 

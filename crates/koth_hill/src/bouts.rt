@@ -9,7 +9,7 @@ use std::marker::Model;
 /// Others that may be on a hill beside one warrior, or before a challenger.
 const PLACES: usize = 20;
 
-const NO_ROUNDS: Bout = Bout {
+pub(crate) const NO_ROUNDS: Bout = Bout {
     older_wins: 0,
     younger_wins: 0,
     ties: 0,

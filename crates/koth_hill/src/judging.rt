@@ -1,7 +1,7 @@
 //! Who falls, and what a challenger is told.
 
 ghost use Rattle.std.specs.Prelude.{◌≡◌, ◌≤◌, length, map};
-ghost use Rattle.koth_hill.specs.Standings.{HaveRounds, judged_among, falling_among, fallen_among, placed_among, standing_parts};
+ghost use Rattle.koth_hill.specs.Standings.{AreStandings, IsLast, judged_among, falling_among, fallen_among, placed_among, standing_parts};
 
 use crate::bouts::Bouts;
 use crate::points::{is_entry, points, scores};
@@ -11,8 +11,9 @@ use crate::verdict::Verdict;
 
 /// The verdict on a challenger, which stands last of these, on a hill of this capacity.
 pub(crate) fn judged(standings: &[Standing<'_>], capacity: usize, own: Standing<'_>) -> Verdict
-    requires rounds { HaveRounds (map standing_parts standings.now) }
+    requires standings { AreStandings (map standing_parts standings.now) }
     requires few { length standings.now ≤ 21 }
+    requires own { IsLast standings.now own.entry }
     requires bouts { length own.bouts.now ≤ 20 }
     ensures { result ≡ judged_among (map standing_parts standings.now) capacity (standing_parts own.entry) }
 {
@@ -26,7 +27,7 @@ pub(crate) fn judged(standings: &[Standing<'_>], capacity: usize, own: Standing<
 
 /// The entry that falls, if there are more than the hill holds.
 fn falling(standings: &[Standing<'_>], capacity: usize) -> Option<u64>
-    requires rounds { HaveRounds (map standing_parts standings.now) }
+    requires standings { AreStandings (map standing_parts standings.now) }
     requires few { length standings.now ≤ 21 }
     ensures { result ≡ falling_among (map standing_parts standings.now) capacity }
 {
@@ -39,8 +40,9 @@ fn falling(standings: &[Standing<'_>], capacity: usize) -> Option<u64>
 
 /// The verdict on a challenger that falls.
 fn fallen(standings: &[Standing<'_>], own: Standing<'_>) -> Verdict
-    requires rounds { HaveRounds (map standing_parts standings.now) }
+    requires standings { AreStandings (map standing_parts standings.now) }
     requires few { length standings.now ≤ 21 }
+    requires own { IsLast standings.now own.entry }
     requires bouts { length own.bouts.now ≤ 20 }
     ensures { result ≡ fallen_among (map standing_parts standings.now) (standing_parts own.entry) }
 {
@@ -48,7 +50,7 @@ fn fallen(standings: &[Standing<'_>], own: Standing<'_>) -> Verdict
         entry: own.entry,
         stays: false,
         falls: Some(own.entry),
-        score: points(standings, None, own.entry),
+        score: points(standings, None, standings.len() - 1),
         rank: 0,
         bouts: Bouts::of(own.bouts),
     }
@@ -56,12 +58,13 @@ fn fallen(standings: &[Standing<'_>], own: Standing<'_>) -> Verdict
 
 /// The verdict on a challenger that stays.
 fn placed(standings: &[Standing<'_>], own: Standing<'_>, falls: Option<u64>) -> Verdict
-    requires rounds { HaveRounds (map standing_parts standings.now) }
+    requires standings { AreStandings (map standing_parts standings.now) }
     requires few { length standings.now ≤ 21 }
+    requires own { IsLast standings.now own.entry }
     requires bouts { length own.bouts.now ≤ 20 }
     ensures { result ≡ placed_among (map standing_parts standings.now) (standing_parts own.entry) falls }
 {
-    let score = points(standings, falls, own.entry);
+    let score = points(standings, falls, standings.len() - 1);
     let all_scores = scores(standings, falls);
     let rank = rank_among(
         all_scores.as_slice(),

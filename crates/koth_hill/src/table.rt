@@ -1,7 +1,7 @@
 //! The table of a hill.
 
 ghost use Rattle.std.specs.Prelude.{◌≡◌, ◌+◌, ◌<◌, ◌≤◌, ◌++◌, length, map, OnOk, IfOk};
-ghost use Rattle.koth_hill.specs.{Rows.rows_parts, Table.{rows_of_rank, table_by}, Kept.{members_of, rows_of as kept_rows, entries_of, kept_results}, Standings.{HaveRounds, standing_of}};
+ghost use Rattle.koth_hill.specs.{Rows.rows_parts, Table.{rows_of_rank, table_by}, Kept.{members_of, rows_of as kept_rows, entries_of, kept_results}, Standings.{AreStandings, standing_of}};
 
 use crate::member::Entrant;
 use crate::points::scores;
@@ -15,7 +15,7 @@ pub(crate) fn rows_of<'h, A: Allocator, B: Allocator>(
     alloc: A,
     members: &'h [Entrant<B>],
 ) -> Result<Vec<Row<'h>, A>, AllocError>
-    requires rounds { HaveRounds (map standing_of members.now) }
+    requires standings { AreStandings (map standing_of members.now) }
     requires few { length members.now ≤ 20 }
     ensures { IfOk result (λ rows. rows_parts rows.items ≡ table_by (kept_results (entries_of (members_of members.now)) (kept_rows members.now)) (members_of members.now)) }
 {

@@ -1,5 +1,5 @@
 use Rattle.{std.proofs.Common.{◌≡◌, ◌∙◌, ◌+◌, ◌-◌, ◌++◌, List, ap, arith, length, map, subst, sym}, koth_hill.specs.{declared.score.Score.Score, Rows.rows_parts, Table.{rows_by_rank, rows_of_rank}}}
-use Rattle.{koth_hill.specs.{Kept.members_of, Standings.{HaveRounds, StandingParts, standing_parts}}, koth_hill.proofs.Tables.{scores-kept, scores-beside, table-kept, rank-more, rank-last}}
+use Rattle.{koth_hill.specs.{Kept.members_of, Standings.{AreStandings, StandingParts, standing_parts}}, koth_hill.proofs.Tables.{scores-kept, scores-beside, table-kept, rank-more, rank-last}}
 use Rattle.koth_hill.proofs.table.rows_of.Goals as goal
 
 pub push_rank-requires-clause-beside : goal.push_rank-requires-clause-beside
@@ -20,10 +20,10 @@ returns g c =
     (scores-kept c.args.members.now c.as_slice.result.now c.scores-all_scores.result (ap (map standing_parts) c.as_slice.ensures.value ∙ c.of-standings.ensures.parts) c.scores-all_scores.ensures)
     (rank-last (members_of c.args.members.now) c.scores-all_scores.result (rows_parts c.loop-place.rows.items) _ c.loop-place.place (length c.args.members.now) c.loop-place-test.false c.loop-place.invariant)
 
-pub scores-all_scores-requires-clause-rounds : goal.scores-all_scores-requires-clause-rounds
-scores-all_scores-requires-clause-rounds g c =
-    let P : List StandingParts → Type 0 = λ ss. HaveRounds ss in
-    subst P (sym (ap (map standing_parts) c.as_slice.ensures.value ∙ c.of-standings.ensures.parts)) c.requires.rounds
+pub scores-all_scores-requires-clause-standings : goal.scores-all_scores-requires-clause-standings
+scores-all_scores-requires-clause-standings g c =
+    let P : List StandingParts → Type 0 = λ ss. AreStandings ss in
+    subst P (sym (ap (map standing_parts) c.as_slice.ensures.value ∙ c.of-standings.ensures.parts)) c.requires.standings
 
 pub scores-all_scores-requires-clause-few : goal.scores-all_scores-requires-clause-few
 scores-all_scores-requires-clause-few g c = c.as_slice.ensures.few

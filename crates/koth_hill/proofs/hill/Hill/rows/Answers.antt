@@ -1,12 +1,12 @@
 use Rattle.{std.proofs.Common.{◌≡◌, ◌∙◌, List, Result, Ok, Err, ap, ap₂, refl, subst, IfOk}, koth_match.specs.declared.bout.Bout.Bout, koth_hill.specs.Hill.Member}
 use Rattle.koth_hill.specs.{Kept.{IsKept, kept_of, members_of, rows_of, entries_of, hill_in, kept_results, table_kept}, Laws.IsRanking, Rows.rows_parts, Table.{RowParts, table, table_by}}
-use Rattle.koth_hill.proofs.{HillLaws.ranking, Hills.{few-entrants, rounds-members}, Truths.true-table}
+use Rattle.koth_hill.proofs.{HillLaws.ranking, Hills.{few-entrants, standings-members}, Truths.true-table}
 use Rattle.koth_hill.proofs.hill.Hill.rows.Goals as goal
 
-pub rows_of-requires-clause-rounds : goal.rows_of-requires-clause-rounds
-rows_of-requires-clause-rounds g c =
+pub rows_of-requires-clause-standings : goal.rows_of-requires-clause-standings
+rows_of-requires-clause-standings g c =
     let es = c.self.inside.members.items in
-    rounds-members (kept_of c.self.inside.settings c.self.inside.counter (members_of es) (rows_of es)) c.as_slice.result.now c.self.invariant.0 (ap rows_of c.as_slice.ensures.value)
+    standings-members (kept_of c.self.inside.settings c.self.inside.counter (members_of es) (rows_of es)) c.as_slice.result.now c.self.invariant.0 (ap members_of c.as_slice.ensures.value) (ap rows_of c.as_slice.ensures.value)
 
 pub returns-clause-kept : goal.returns-clause-kept
 returns-clause-kept g c =
