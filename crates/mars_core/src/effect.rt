@@ -14,7 +14,7 @@ use std::alloc::Allocator;
 use war_types::{Modifier, Op};
 
 /// The addresses that an operation queues in place of the process that was executed.
-#[derive(Clone, Copy, PartialEq, Eq)]
+#[derive(Clone, Copy)]
 pub(crate) enum Queued {
     /// None: the process ends.
     Nothing,

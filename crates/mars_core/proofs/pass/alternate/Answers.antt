@@ -1,5 +1,5 @@
 use Rattle.std.proofs.Common.{◌≡◌, ℕ, ◌+◌, ◌-◌, ◌*◌, true, false, refl, sym, subst, ap, ap₂, ◌∙◌, arith}
-use Rattle.mars_core.specs.{Queue.Processes, Round.{after_turns, IsQueue}, Passes.{round_at, round_after}, Window.held}
+use Rattle.mars_core.specs.{Queue.Processes, Round.{after_turns, is_empty, IsQueue}, Passes.{round_at, round_after}, Window.held}
 use Rattle.mars_core.proofs.{Turns.after_turns-none, Passes.{pass-first_ends, pass-second_ends, pass-made, still-made, last-made}}
 use Rattle.mars_core.proofs.pass.alternate.Goals as goal
 
@@ -91,3 +91,80 @@ returns-then-turn_of-2-clause-after g c = λ m s used z l1 l2 bound.
     (l1 ∙ sym kept.mover_limit) refl refl bound c.loop-left-test.true kept.left one
     t2.new.core c.end-then-turn_of-2.new.self (l2 ∙ sym kept.others_limit) refl two.0 two.1
     ∙ ap (λ (q : Processes). round_after false m s t2.new.core q.addresses c.end-then-turn_of-2.new.self.addresses (used + (2 * c.args.most - 2 * (l.left - 1)))) (sym c.close-then-turn_of-2.ensures))
+
+-- ---- what the sides keep
+
+closed : (size : ℕ) (q q' : Processes) → q' ≡ q → IsQueue size q.limit q.addresses → IsQueue size q'.limit q'.addresses
+closed size q q' is kept = subst (λ (q : Processes). IsQueue size q.limit q.addresses) (sym is) kept
+
+pub returns-then-turn_of-clause-mover : goal.returns-then-turn_of-clause-mover
+returns-then-turn_of-clause-mover g c =
+    let l = c.loop-left in
+    let t1 = c.turn_of in
+    let one = last-made c.args.size l.core t1.new.core (held l.own l.own_places l.mover) (held t1.new.window t1.new.places t1.new.queue) c.close.new.queue c.end.new.self t1.result
+    c.if-turn_of.true c.close.ensures c.end.ensures.value t1.ensures.empty t1.ensures.turn in
+    one.0.room
+
+pub returns-then-turn_of-clause-mover_limit : goal.returns-then-turn_of-clause-mover_limit
+returns-then-turn_of-clause-mover_limit g c =
+    let l = c.loop-left in
+    let t1 = c.turn_of in
+    let one = last-made c.args.size l.core t1.new.core (held l.own l.own_places l.mover) (held t1.new.window t1.new.places t1.new.queue) c.close.new.queue c.end.new.self t1.result
+    c.if-turn_of.true c.close.ensures c.end.ensures.value t1.ensures.empty t1.ensures.turn in
+    one.0.limit ∙ l.invariant.mover_limit
+
+pub returns-then-turn_of-clause-others : goal.returns-then-turn_of-clause-others
+returns-then-turn_of-clause-others g c = closed _ _ _ c.close-then-turn_of.ensures c.loop-left.invariant.others
+
+pub returns-then-turn_of-clause-others_limit : goal.returns-then-turn_of-clause-others_limit
+returns-then-turn_of-clause-others_limit g c = ap (λ (q : Processes). q.limit) c.close-then-turn_of.ensures ∙ c.loop-left.invariant.others_limit
+
+pub returns-then-turn_of-2-clause-mover : goal.returns-then-turn_of-2-clause-mover
+returns-then-turn_of-2-clause-mover g c =
+    let l = c.loop-left in
+    let t1 = c.turn_of in
+    let one = still-made c.args.size l.core t1.new.core (held l.own l.own_places l.mover) (held t1.new.window t1.new.places t1.new.queue) t1.result c.if-turn_of.false t1.ensures.turn in
+    closed _ _ _ c.close-then-turn_of-2.ensures one.room
+
+pub returns-then-turn_of-2-clause-mover_limit : goal.returns-then-turn_of-2-clause-mover_limit
+returns-then-turn_of-2-clause-mover_limit g c =
+    let l = c.loop-left in
+    let t1 = c.turn_of in
+    let one = still-made c.args.size l.core t1.new.core (held l.own l.own_places l.mover) (held t1.new.window t1.new.places t1.new.queue) t1.result c.if-turn_of.false t1.ensures.turn in
+    ap (λ (q : Processes). q.limit) c.close-then-turn_of-2.ensures ∙ (one.limit ∙ l.invariant.mover_limit)
+
+pub returns-then-turn_of-2-clause-others : goal.returns-then-turn_of-2-clause-others
+returns-then-turn_of-2-clause-others g c =
+    let l = c.loop-left in
+    let t1 = c.turn_of in
+    let t2 = c.turn_of-in-loop-left in
+    let two = last-made c.args.size t1.new.core t2.new.core (held l.other l.other_places l.others) (held t2.new.window t2.new.places t2.new.queue) c.close-then-turn_of-2-2.new.queue c.end-then-turn_of-2.new.self t2.result
+    c.if-turn_of-2.true c.close-then-turn_of-2-2.ensures c.end-then-turn_of-2.ensures.value t2.ensures.empty t2.ensures.turn in
+    two.0.room
+
+pub returns-then-turn_of-2-clause-others_limit : goal.returns-then-turn_of-2-clause-others_limit
+returns-then-turn_of-2-clause-others_limit g c =
+    let l = c.loop-left in
+    let t1 = c.turn_of in
+    let t2 = c.turn_of-in-loop-left in
+    let two = last-made c.args.size t1.new.core t2.new.core (held l.other l.other_places l.others) (held t2.new.window t2.new.places t2.new.queue) c.close-then-turn_of-2-2.new.queue c.end-then-turn_of-2.new.self t2.result
+    c.if-turn_of-2.true c.close-then-turn_of-2-2.ensures c.end-then-turn_of-2.ensures.value t2.ensures.empty t2.ensures.turn in
+    two.0.limit ∙ l.invariant.others_limit
+
+pub returns-clause-mover : goal.returns-clause-mover
+returns-clause-mover g c = closed _ _ _ c.close-2.ensures c.loop-left.invariant.mover
+
+pub returns-clause-mover_limit : goal.returns-clause-mover_limit
+returns-clause-mover_limit g c = ap (λ (q : Processes). q.limit) c.close-2.ensures ∙ c.loop-left.invariant.mover_limit
+
+pub returns-clause-others : goal.returns-clause-others
+returns-clause-others g c = closed _ _ _ c.close-3.ensures c.loop-left.invariant.others
+
+pub returns-clause-others_limit : goal.returns-clause-others_limit
+returns-clause-others_limit g c = ap (λ (q : Processes). q.limit) c.close-3.ensures ∙ c.loop-left.invariant.others_limit
+
+pub end-requires : goal.end-requires
+end-requires g c = ap (λ (q : Processes). is_empty q.addresses) c.close.ensures
+
+pub end-requires-then-turn_of-2 : goal.end-requires-then-turn_of-2
+end-requires-then-turn_of-2 g c = ap (λ (q : Processes). is_empty q.addresses) c.close-then-turn_of-2-2.ensures

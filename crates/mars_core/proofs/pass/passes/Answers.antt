@@ -35,3 +35,33 @@ returns-then-is_odd-clause-left g c = omega (arith, c.alternate-left.ensures.odd
 
 pub returns-then-is_odd-2-clause-left : goal.returns-then-is_odd-2-clause-left
 returns-then-is_odd-2-clause-left g c = omega (arith, c.alternate-left-in-Second.ensures.odd c.if-is_odd-2.true, c.alternate-left-in-Second.ensures.left)
+
+pub alternate-left-requires : goal.alternate-left-requires
+alternate-left-requires g c = record { wide = c.requires.wide; core = c.requires.core; mover = c.requires.first; others = c.requires.second; mover_lives = c.requires.first_lives; others_live = c.requires.second_lives; most = c.requires.most }
+
+pub alternate-left-requires-in-Second : goal.alternate-left-requires-in-Second
+alternate-left-requires-in-Second g c = record { wide = c.requires.wide; core = c.requires.core; mover = c.requires.second; others = c.requires.first; mover_lives = c.requires.second_lives; others_live = c.requires.first_lives; most = c.requires.most }
+
+pub returns-else-is_odd-clause-left : goal.returns-else-is_odd-clause-left
+returns-else-is_odd-clause-left g c = omega (arith, c.alternate-left.ensures.left)
+
+pub returns-else-is_odd-2-clause-left : goal.returns-else-is_odd-2-clause-left
+returns-else-is_odd-2-clause-left g c = omega (arith, c.alternate-left-in-Second.ensures.left)
+
+pub overflow_mul-result : goal.overflow_mul-result
+overflow_mul-result g c = omega (arith, c.alternate-left.ensures.left, c.requires.most)
+
+pub overflow_add-result : goal.overflow_add-result
+overflow_add-result g c = omega (arith, c.alternate-left.ensures.left, c.requires.most)
+
+pub overflow_mul-result-else-is_odd : goal.overflow_mul-result-else-is_odd
+overflow_mul-result-else-is_odd g c = omega (arith, c.alternate-left.ensures.left, c.requires.most)
+
+pub overflow_mul-result-then-is_odd-2 : goal.overflow_mul-result-then-is_odd-2
+overflow_mul-result-then-is_odd-2 g c = omega (arith, c.alternate-left-in-Second.ensures.left, c.requires.most)
+
+pub overflow_add-result-then-is_odd-2 : goal.overflow_add-result-then-is_odd-2
+overflow_add-result-then-is_odd-2 g c = omega (arith, c.alternate-left-in-Second.ensures.left, c.requires.most)
+
+pub overflow_mul-result-else-is_odd-2 : goal.overflow_mul-result-else-is_odd-2
+overflow_mul-result-else-is_odd-2 g c = omega (arith, c.alternate-left-in-Second.ensures.left, c.requires.most)

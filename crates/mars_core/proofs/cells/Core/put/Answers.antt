@@ -1,6 +1,21 @@
-use Rattle.{std.proofs.Common.{◌≡◌, sym, ap, ◌∙◌}, mars_words.specs.Words.Word, mars_core.specs.Marks.is_marked}
+use Rattle.{std.proofs.Common.{◌≡◌, sym, ap, subst, ◌∙◌, arith}, mars_words.specs.Words.{Word, IsWord}, mars_core.specs.Marks.is_marked}
 use Rattle.mars_core.proofs.Marks.{inside-core_in, is_marked-read, AreCells-set, core_in-set, IsCore-set}
 use Rattle.mars_core.proofs.cells.Core.put.Goals as goal
+
+pub index-requires : goal.index-requires
+index-requires g c =
+    let inside = inside-core_in c.args.size c.args.at c.self.inside.cells.items c.args.self.now c.requires.core c.requires.address c.self.view_is in
+    omega (arith, c.self.inside.cells.ok.0, inside)
+
+pub index_mut-requires : goal.index_mut-requires
+index_mut-requires g c =
+    let inside = inside-core_in c.args.size c.args.at c.self.inside.cells.items c.args.self.now c.requires.core c.requires.address c.self.view_is in
+    omega (arith, c.self.inside.cells.ok.0, inside)
+
+pub in_bits-before-requires : goal.in_bits-before-requires
+in_bits-before-requires g c =
+    let inside = inside-core_in c.args.size c.args.at c.self.inside.cells.items c.args.self.now c.requires.core c.requires.address c.self.view_is in
+    subst IsWord (sym c.index.ensures) (c.self.invariant.words c.args.at c.index.result.now inside)
 
 pub invariant_of-self : goal.invariant_of-self
 invariant_of-self g c =

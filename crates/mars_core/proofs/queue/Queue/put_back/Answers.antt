@@ -1,3 +1,4 @@
+use Rattle.std.proofs.lemmas.Grind.{common_steps}
 use Rattle.std.proofs.Common.{ℕ, ◌+◌, min, ◌∷◌, List, Bool, arith, ap, ap₂, sym, ◌∙◌}
 use Rattle.{circular_buffer.specs.Buffer.Buffer, mars_core.{specs.{Queue.{processes, processes_in}, Window.waiting}, proofs.Windows.{closed, parts-live}}}
 use Rattle.mars_core.proofs.queue.Queue.put_back.Goals as goal
@@ -10,3 +11,9 @@ returns g c =
     (omega (arith, c.requires.places, c.requires.head)) (c.min-end.ensures ∙ ap (min (c.args.head + c.args.count)) (sym c.requires.places)) (omega (arith, parts, c.requires.room))
     c.fill_from_slice.ensures.count c.fill_from_slice.ensures.items c.put_first.ensures)
     ∙ ap₂ (λ (limit : ℕ) (queue : List ℕ). processes limit (c.args.front ∷ waiting c.args.head c.args.count c.args.places.now queue)) (sym parts.2) (sym parts.1)
+
+pub invariant_of-self : goal.invariant_of-self
+invariant_of-self g c = grind (arith, common_steps)
+
+pub put_first-requires : goal.put_first-requires
+put_first-requires g c = grind (arith, common_steps)

@@ -1,3 +1,4 @@
+use Rattle.std.proofs.lemmas.Grind.{common_steps}
 use Rattle.std.proofs.Common.{◌≡◌, ◌+◌, ◌-◌, ◌<◌, ◌++◌, ◌∷◌, [], length, take, arith, ap, ap₂, sym, ◌∙◌}
 use Rattle.{circular_buffer.specs.Buffer.buffer, mars_core.{specs.{Queue.behind_front, Window.waiting}, proofs.Windows.{taken, full, parts-live, behind-parts}}}
 use Rattle.mars_core.proofs.queue.Queue.take_in.Goals as goal
@@ -21,3 +22,15 @@ returns-clause-value g c =
     (omega (arith, c.requires.places, c.requires.head)) (omega (arith, c.requires.places, c.requires.past)) (omega (arith, c.requires.places, c.requires.count))
     (omega (arith, parts, c.if-count-room.false, c.room.ensures)) c.fill_from_slice.ensures.count c.fill_from_slice.ensures.items pushed
     ∙ ap₂ (λ n xs. take n (waiting c.args.head c.args.count c.args.places.now xs ++ c.args.behind ∷ [])) capacity (sym parts.1))
+
+pub invariant_of-self : goal.invariant_of-self
+invariant_of-self g c = grind (arith, common_steps)
+
+pub returns-clause-room : goal.returns-clause-room
+returns-clause-room g c = grind (arith, common_steps)
+
+pub returns-clause-count : goal.returns-clause-count
+returns-clause-count g c = grind (arith, common_steps)
+
+pub returns-clause-past : goal.returns-clause-past
+returns-clause-past g c = grind (arith, common_steps)
