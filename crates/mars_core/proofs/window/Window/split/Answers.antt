@@ -1,3 +1,4 @@
+use Rattle.std.proofs.lemmas.Grind.{common_steps}
 use Rattle.std.proofs.Common.{◌≡◌, ◌≤◌, ◌∷◌, ◌++◌, [], length, arith, ap, ap₂, sym, ◌∙◌, length-append, take_all, take_at}
 use Rattle.mars_core.{specs.{Queue.{processes, behind_front}, Window.waiting}, proofs.Windows.{second, take-front, held-length, behind-length, put-next}}
 use Rattle.mars_core.proofs.window.Window.split.Goals as goal
@@ -36,3 +37,15 @@ returns-else-self-2-clause-value g c =
     let size : length all ≡ q.limit = omega (arith, held-length w places q kept, kept.room, kept.count, kept.within, c.if-self.false, c.if-self-2.false) in
     ap (processes q.limit) (sym (take_at all (c.args.behind ∷ []) q.limit size))
     ∙ second c.args.address c.args.behind c.args.self.now w c.args.places.now places c.args.queue.now q c.requires.window c.follow.ensures.value
+
+pub returns-then-self-clause-window : goal.returns-then-self-clause-window
+returns-then-self-clause-window g c = grind (arith, common_steps)
+
+pub returns-then-self-2-clause-window : goal.returns-then-self-2-clause-window
+returns-then-self-2-clause-window g c = grind (arith, common_steps)
+
+pub returns-else-self-2-clause-window : goal.returns-else-self-2-clause-window
+returns-else-self-2-clause-window g c = grind (arith, common_steps)
+
+pub bounds-places-self : goal.bounds-places-self
+bounds-places-self g c = grind (arith, common_steps)
