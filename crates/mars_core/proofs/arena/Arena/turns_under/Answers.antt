@@ -1,3 +1,4 @@
+use Rattle.std.proofs.lemmas.Grind.{common_steps}
 use Rattle.{std.proofs.Common.{◌≡◌, false, sym, subst, ℕ, ◌≤◌, ap, subst₂, ◌∙◌, arith}, mars_core.specs.{Cells.IsCore, Operand.Reach, Round.{Round, is_over, IsQueue}, Arena.round_in}}
 use Rattle.mars_core.proofs.Turns.{both_sides_live}
 use Rattle.mars_core.proofs.arena.Arena.turns_under.Goals as goal
@@ -16,3 +17,12 @@ turns-played-requires g c =
       first_lives = lives.0;
       second_lives = lives.1;
     }
+
+pub invariant_of-self : goal.invariant_of-self
+invariant_of-self g c = grind (arith, common_steps)
+
+pub returns-clause-after : goal.returns-clause-after
+returns-clause-after g c = grind (arith, common_steps)
+
+pub returns-clause-last : goal.returns-clause-last
+returns-clause-last g c = grind (arith, common_steps)

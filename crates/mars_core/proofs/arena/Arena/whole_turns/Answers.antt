@@ -1,3 +1,4 @@
+use Rattle.std.proofs.lemmas.Grind.{common_steps}
 use Rattle.std.proofs.Common.{◌≡◌, ℕ, ◌*◌, ◌/◌, true, ap, sym, ◌∙◌, arith}
 use Rattle.{war_types.specs.declared.settings.RawSettings.RawSettings, mars_core.specs.Round.{after_turns, is_over, reach_of}, mars_core.proofs.Turns.{after_turns-odd, after_turns-over, after_turns-one_kept}}
 use Rattle.mars_core.proofs.arena.Arena.whole_turns.Goals.{else-most-gt1-via-then-most-gt1+else-not-is_over, else-most-gt1-via-else-most-gt1}
@@ -28,3 +29,12 @@ returns-else-most-gt1-clause-after g c =
           (let one : 1 ≡ c.args.most = omega (arith, c.if-most-eq0.false, w.if-most-gt1.false) in
           turned ∙ ap (λ (n : ℕ). after_turns n c.args.self.now) one)
     ]
+
+pub returns-then-not-is_over-clause-last : goal.returns-then-not-is_over-clause-last
+returns-then-not-is_over-clause-last g c = grind (arith, common_steps)
+
+pub returns-then-most-eq0-clause-after : goal.returns-then-most-eq0-clause-after
+returns-then-most-eq0-clause-after g c = grind (arith, common_steps)
+
+pub returns-then-most-eq0-clause-last : goal.returns-then-most-eq0-clause-last
+returns-then-most-eq0-clause-last g c = grind (arith, common_steps)
