@@ -5,7 +5,7 @@ ghost use Rattle.{war_types.specs.Fault.kind_name, koth_text.specs.{Refusal.refu
 ghost use Rattle.{koth_words.specs.declared.requests.View.View, koth_commands.specs.{Answer.{Delivers, DeliversText, IsRefusal, SaysRefused}, Told.TellsWord, Trouble.{fault_word, no_memory}, declared.trouble.Fault.Fault}};
 
 use crate::cause::{Cause, Reason};
-use crate::explanation::explanation_of;
+use crate::explanation::{explained, explanation_of};
 use crate::report::copied;
 use crate::status::Status;
 use crate::stream::{StreamFault, write_whole};
@@ -145,6 +145,24 @@ pub fn refusal<'t, A: Allocator + Copy>(
         status: Status::Refused,
         text: refusal_text(alloc, settings, refused, view)?,
         note: refusal_note(alloc, settings, refused, view),
+    })
+}
+
+/// The same for people, of a source whose refusal was told.
+pub(crate) fn refusal_told<'t, A: Allocator + Copy>(
+    alloc: A,
+    refused: RefusedSource<'_>,
+    told: Option<Diagnosis<A>>,
+) -> Result<Answer<A>, Trouble<'t>>
+    ensures { MatchResult result (IsRefusal View.Plain refused.entry.fault) (λ trouble. trouble ≡ no_memory) }
+{
+    if matches!(refused.fault.kind, AsmKind::Memory) {
+        return Err(Trouble::memory());
+    }
+    Ok(Answer {
+        status: Status::Refused,
+        text: line_of(alloc, refused.fault)?,
+        note: explained(alloc, refused.path, refused.text, told),
     })
 }
 

@@ -4,12 +4,13 @@ ghost use Rattle.std.specs.Prelude.{◌≡◌, MatchResult, Ok};
 ghost use Rattle.{war_types.specs.Settings.settings_of, redcode_asm.specs.Assembly.assembly};
 ghost use Rattle.koth_commands.specs.{Asm.{EndsAsmFrom, IsDoneFrom, IsAssembled}, Streams.{is_input, streams}, Trouble.no_memory};
 
-use crate::answer::{Answer, RefusedSource, deliver, refusal};
+use crate::answer::{Answer, RefusedSource, deliver, refusal_told};
 use crate::source::{source_name, source_text};
 use crate::status::Status;
 use crate::trouble::Trouble;
-use koth_words::{Source, View};
-use redcode_asm::{assemble, load_text};
+use koth_words::Source;
+use redcode_asm::load_text;
+use redcode_diagnosis::assemble_told;
 use std::alloc::Allocator;
 use std::io::{Read, Write};
 use std::rt::Files;
@@ -63,13 +64,9 @@ fn assembled<'t, A: Allocator + Copy>(
 ) -> Result<Answer<A>, Trouble<'t>>
     ensures { MatchResult result (IsAssembled settings.now (assembly settings.now text.now)) (λ trouble. trouble ≡ no_memory) }
 {
-    match assemble(alloc, text, settings) {
+    let (warrior, told) = assemble_told(alloc, text, settings);
+    match warrior {
         Ok(warrior) => Ok(Answer::done(alloc, load_text(alloc, &warrior, settings.core())?)),
-        Err(fault) => refusal(
-            alloc,
-            settings,
-            RefusedSource { path, text, fault },
-            View::Plain,
-        ),
+        Err(fault) => refusal_told(alloc, RefusedSource { path, text, fault }, told),
     }
 }

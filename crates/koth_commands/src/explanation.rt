@@ -4,7 +4,7 @@ ghost use Rattle.koth_commands.specs.Told.{WritesSome};
 
 use crate::report::Remark;
 use crate::stream::write_whole;
-use redcode_diagnosis::diagnose;
+use redcode_diagnosis::{Diagnosis, diagnose};
 use std::alloc::{AllocError, Allocator};
 use std::io::Write;
 use war_types::Settings;
@@ -49,5 +49,21 @@ fn first_told<A: Allocator + Copy>(
     match found.as_slice().first() {
         Some(first) => Ok(Some(first.told(alloc, path, source)?)),
         None => Ok(None),
+    }
+}
+
+/// The explanation of a refusal that was told. It is empty if none was, or memory runs out.
+pub(crate) fn explained<A: Allocator + Copy>(
+    alloc: A,
+    path: &str,
+    source: &[u8],
+    told: Option<Diagnosis<A>>,
+) -> Vec<u8, A> {
+    let Some(first) = told else {
+        return Vec::new(alloc);
+    };
+    match first.told(alloc, path, source) {
+        Ok(text) => text,
+        Err(_) => Vec::new(alloc),
     }
 }

@@ -3,6 +3,6 @@ pub mod Bounds
 pub mod Fitting
 pub mod LoadLemmas
 pub mod AssemblyLemmas
-mod Shown
+pub mod Shown
 pub mod RoundTrip
 pub mod Limits

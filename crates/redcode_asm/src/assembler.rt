@@ -2,7 +2,7 @@
 
 ghost use Rattle.std.specs.Prelude.{◌≡◌, ◌^◌, ◌<◌, ◌≤◌, ◌+◌, length, IfOk, Ok, Err, unwrap_or, []};
 ghost use Rattle.{war_types.specs.{Warrior.Fits, declared.fault.AsmKind.TheVariants.SourceTooLong}, redcode_names.specs.Gives.{Gives, fault_at}, redcode_expand.specs.Budget.most_steps, redcode_asm.specs.Said.statement_of};
-ghost use Rattle.redcode_asm.specs.Assembly.{Assembles, assembly, checked_start, warrior_said, all_said, code_of, given_start, start_of, all_hold, last_text, is_name, is_author};
+ghost use Rattle.redcode_asm.specs.Assembly.{Assembles, assembly, assembly_of, checked_start, warrior_said, all_said, code_of, given_start, start_of, all_hold, last_text, is_name, is_author};
 
 use crate::names::Labels;
 use bumpalo::Bump;
@@ -49,8 +49,20 @@ pub(crate) fn assemble_by<A: Allocator + Copy>(
 {
     let region = Bump::new(alloc);
     let expanded = expand_within(alloc, &region, source, settings, steps)?;
-    let said = all_said(alloc, &expanded, settings)?;
-    warrior_of(alloc, &expanded, said.as_slice(), settings)
+    warrior_from(alloc, &expanded, settings)
+}
+
+/// The warrior of a source that is written out.
+pub fn warrior_from<A: Allocator + Copy>(
+    alloc: A,
+    expanded: &Expanded<'_, A>,
+    settings: &Settings,
+) -> Result<Warrior<A>, AsmFault>
+    ensures assembled { Assembles result (assembly_of settings.now expanded.now) }
+    ensures fits { IfOk result (Fits settings.now) }
+{
+    let said = all_said(alloc, expanded, settings)?;
+    warrior_of(alloc, expanded, said.as_slice(), settings)
 }
 
 /// The warrior of lines that say this.

@@ -7,7 +7,7 @@
 //! The main clauses: `assemble` is the definition of `Assembly` in `specs` unless memory runs out, and a warrior that it answers fits
 //! the settings. `load_text` is the definition of `LoadText`, and by `RoundTrip` it assembles to its warrior's code and start.
 //! `assemble_within` is the same within a budget of steps, or says that they are spent.
-//! `said_by` says what one line says, for those who explain a refusal.
+//! `said_by` says what one line says, and `warrior_from` what the lines make, for those who explain a refusal.
 //!
 //! Nothing here explains a refusal: it answers a line and a kind.
 #![tactic(auto)]
@@ -17,7 +17,7 @@ mod names;
 mod printer;
 mod within;
 
-pub use assembler::{assemble, said_by};
+pub use assembler::{assemble, said_by, warrior_from};
 pub use names::Labels;
 pub use printer::load_text;
 pub use redcode_expand::SOURCE_LIMIT;

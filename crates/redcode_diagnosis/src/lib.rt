@@ -1,7 +1,7 @@
 //! Refusals and warnings of a source for people: where in the line the fault is, what is wrong, and what was probably meant.
 //!
-//! `diagnosis` has the refusals of a source, each with its place and its sentence, which are `redcode_blame`'s. `text` writes a refusal
-//! or one of `redcode_warnings`' warnings.
+//! `diagnosis` has the refusals of a source, each with its place and its sentence, which are `redcode_blame`'s, and `assembled` the first
+//! of them beside an assembly. `text` writes a refusal or one of `redcode_warnings`' warnings.
 //!
 //! The main clauses: `diagnose` answers no refusal if `assembly` gives a warrior, and else the assembler's first and after it those that
 //! `redcode_scene` defines (`TellsAll`). Each place lies within its line (`IsPlaceIn`). `text_of` and `warning_text_of` begin with what
@@ -10,10 +10,12 @@
 //! Nothing here changes what is refused.
 #![tactic(auto)]
 
+mod assembled;
 mod diagnosis;
 mod further;
 mod text;
 
+pub use assembled::assemble_told;
 pub use diagnosis::{Diagnosis, diagnose};
 pub use redcode_blame::Copied;
 pub use redcode_lines::line_text;

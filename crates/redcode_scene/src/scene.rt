@@ -55,6 +55,25 @@ impl<'s, A: Allocator + Copy> Scene<'s, A> {
         }
     }
 
+    /// What is known of a source of which this was written out, nothing if that was refused. It fails when memory runs out.
+    pub fn of(
+        alloc: A,
+        source: &'s [u8],
+        settings: &'s Settings,
+        expanded: Option<Expanded<'s, A>>,
+    ) -> Result<Scene<'s, A>, AllocError> {
+        match lines_of(alloc, source) {
+            Ok(lines) => Ok(Scene {
+                alloc,
+                source,
+                settings,
+                lines,
+                expanded,
+            }),
+            Err(error) => Err(error),
+        }
+    }
+
     /// How the line of this number stands in the source, if it says something.
     pub fn row(&self, number: u32) -> Option<Row<'_, 's>> {
         for line in &self.lines {
