@@ -1,7 +1,7 @@
 //! An assembly whose refusal is told from what it wrote out.
 
-ghost use Rattle.std.specs.Prelude.{IfOk};
-ghost use Rattle.{war_types.specs.Warrior.Fits, redcode_asm.specs.Assembly.{Assembles, assembly}};
+ghost use Rattle.std.specs.Prelude.{◌≡◌, IfErr, IfOk, IfSome};
+ghost use Rattle.{war_types.specs.Warrior.Fits, redcode_lines.specs.Place.{IsPlaceIn, line_text}, redcode_asm.specs.Assembly.{Assembles, assembly}};
 
 use crate::diagnosis::{Diagnosis, told};
 use bumpalo::Bump;
@@ -20,6 +20,8 @@ pub fn assemble_told<A: Allocator + Copy>(
 ) -> (Result<Warrior<A>, AsmFault>, Option<Diagnosis<A>>)
     ensures assembled { Assembles result.0 (assembly settings.now source.now) }
     ensures fits { IfOk result.0 (Fits settings.now) }
+    ensures told { IfSome result.1 (λ d. IfErr result.0 (λ fault. d.fault ≡ fault)) }
+    ensures placed { IfSome result.1 (λ d. IsPlaceIn (line_text source.now d.fault.line) d.column d.width) }
 {
     let region = Bump::new(alloc);
     assemble_in(alloc, &region, source, settings)
@@ -34,6 +36,8 @@ fn assemble_in<'s, A: Allocator + Copy>(
 ) -> (Result<Warrior<A>, AsmFault>, Option<Diagnosis<A>>)
     ensures assembled { Assembles result.0 (assembly settings.entry.now source.entry.now) }
     ensures fits { IfOk result.0 (Fits settings.entry.now) }
+    ensures told { IfSome result.1 (λ d. IfErr result.0 (λ fault. d.fault ≡ fault)) }
+    ensures placed { IfSome result.1 (λ d. IsPlaceIn (line_text source.entry.now d.fault.line) d.column d.width) }
 {
     match expand(alloc, region, source, settings) {
         Ok(expanded) => match warrior_from(alloc, &expanded, settings) {
@@ -54,7 +58,10 @@ fn first_told<'s, A: Allocator + Copy>(
     settings: &'s Settings,
     expanded: Option<Expanded<'s, A>>,
     fault: AsmFault,
-) -> Option<Diagnosis<A>> {
+) -> Option<Diagnosis<A>>
+    ensures told { IfSome result (λ d. d.fault ≡ fault) }
+    ensures placed { IfSome result (λ d. IsPlaceIn (line_text source.entry.now d.fault.line) d.column d.width) }
+{
     match Scene::of(alloc, source, settings, expanded) {
         Ok(scene) => told(&scene, source, fault).ok(),
         Err(_) => None,
