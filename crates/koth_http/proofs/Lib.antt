@@ -1,5 +1,3 @@
-pub mod Parts
 pub mod Numbers
 pub mod Targets
-mod Hosts
 mod HostRows

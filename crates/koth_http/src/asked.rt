@@ -1,10 +1,9 @@
 //! What a browser asks, by the bytes that came from it.
 
-ghost use Rattle.std.specs.Prelude.{◌≡◌, ◌≤◌, nat_lt, not, bytes_eq, codes, if◌then◌else◌, Bool, None, Some, length, map};
+ghost use Rattle.std.specs.Prelude.{◌≡◌, ◌≤◌, not, bytes_eq, codes, Bool, length, map};
 ghost use Rattle.httparse.specs.{Grammar.RequestHead, Spans.{IsRequestAt, IsRequestWithin}};
 ghost use Rattle.koth_http.specs.Asked.{FindsAsked, IsAsked, IsAskedBy, asked_of, is_reading, most_bytes, page_by, page_unless, refused};
 ghost use Rattle.koth_http.specs.{Host.{host_by, host_fault, IsJudged}, Target.page_named};
-ghost use Rattle.koth_http.specs.declared.refusal.Refusal.TheVariants as refusals;
 
 use crate::host::{Hosts, host_fault, hosts_in, is_own, parts_of};
 use crate::refusal::Refusal;
@@ -19,7 +18,7 @@ pub(crate) const MOST_BYTES: usize = 8_192;
 const MOST_FIELDS: usize = 64;
 
 /// What a browser asks.
-#[derive(Clone, Copy, PartialEq, Eq)]
+#[derive(Clone, Copy)]
 pub struct Asked {
     /// The page, or why there is none.
     pub page: Result<Page, Refusal>,
@@ -36,7 +35,8 @@ pub(crate) fn asked_in(names: &[&str], bytes: &[u8]) -> Option<Asked>
     let mut fields = [EMPTY_HEADER_SPAN; MOST_FIELDS];
     match parse_request(bytes, &mut fields) {
         Ok(Status::Complete(head)) => Some(asked_by(names, bytes, head, &fields)),
-        Ok(Status::Partial) => partly(bytes.len()),
+        Ok(Status::Partial) if bytes.len() < MOST_BYTES => None,
+        Ok(Status::Partial) => Some(refused(Refusal::HeadTooLarge)),
         Err(Error::TooManyHeaders) => Some(refused(Refusal::HeadTooLarge)),
         Err(_) => Some(refused(Refusal::BadRequest)),
     }
@@ -50,18 +50,6 @@ fn asked_by(names: &[&str], bytes: &[u8], head: RequestSpans, fields: &[HeaderSp
     let hosts = hosts_in(bytes, &fields[..head.headers]);
     let (method, target) = (head.method.of(bytes), head.path.of(bytes));
     asked_of(names, head.version, hosts, method, target)
-}
-
-/// What the beginning of a head asks, by its length.
-fn partly(len: usize) -> Option<Asked>
-    requires { len ≤ most_bytes }
-    ensures { result ≡ (if nat_lt len most_bytes then None else Some (refused refusals.HeadTooLarge)) }
-{
-    if len < MOST_BYTES {
-        None
-    } else {
-        Some(refused(Refusal::HeadTooLarge))
-    }
 }
 
 fn refused(refusal: Refusal) -> Asked

@@ -4,16 +4,13 @@ ghost use Rattle.std.specs.Prelude.{◌≡◌, length, map, codes, option_map, A
 ghost use Rattle.std.specs.{Net.Grammar.{IsIpv4Text, IsIpv6Text, IsSocketText}, Str.str_eq_ignore_ascii_case};
 ghost use Rattle.std.specs.{declared.net.ipv4_addr.Ipv4Addr.Ipv4Addr, declared.net.ipv6_addr.Ipv6Addr.Ipv6Addr, declared.net.socket_addr.SocketAddr.SocketAddr};
 ghost use Rattle.httparse.specs.Spans.{header_bytes, IsHeaderWithin};
-ghost use Rattle.koth_http.specs.Host.{first_host, has_name, host_fault, host_named, host_values, origin_of, path_or_root, IsAddress, IsBracketed, IsJudged, IsNamed};
+ghost use Rattle.koth_http.specs.Host.{first_host, has_name, host_fault, host_named, host_values, is_absolute, origin_of, path_or_root, IsAddress, IsBracketed, IsJudged, IsNamed};
 
 use crate::refusal::Refusal;
 use crate::target::cut;
 use httparse::spans::HeaderSpan;
 use std::net::{Ipv4Addr, Ipv6Addr, SocketAddr};
 use std::str::from_utf8;
-
-/// The beginning of a target that names its host.
-const SCHEME: &[u8] = b"http://";
 
 /// The fields `Host` of a head.
 #[derive(Clone, Copy)]
@@ -31,12 +28,10 @@ pub(crate) fn hosts_in<'b>(bytes: &'b [u8], fields: &[HeaderSpan]) -> Hosts<'b>
 {
     let mut first: &[u8] = &[];
     let mut count = 0;
-    for at in 0..fields.len() {
+    for at in (0..fields.len()).rev() {
         let field = fields[at];
         if is_host(field.name.of(bytes)) {
-            if count == 0 {
-                first = field.value.of(bytes);
-            }
+            first = field.value.of(bytes);
             count += 1;
         }
     }
@@ -62,7 +57,7 @@ pub(crate) fn parts_of(target: &[u8]) -> Parts<'_>
     ensures host { option_map (λ host. host.now) result.host ≡ host_named target.now }
     ensures origin { result.origin.now ≡ origin_of target.now }
 {
-    if target.len() < 7 || !target[..7].eq_ignore_ascii_case(SCHEME) {
+    if !is_absolute(target) {
         return Parts {
             host: None,
             origin: target,
@@ -74,6 +69,13 @@ pub(crate) fn parts_of(target: &[u8]) -> Parts<'_>
         host: Some(host),
         origin: path_or_root(&rest[host.len()..]),
     }
+}
+
+/// Whether a target names its host.
+fn is_absolute(target: &[u8]) -> bool
+    ensures { result ≡ is_absolute target.now }
+{
+    target.len() >= 7 && target[..7].eq_ignore_ascii_case(b"http://")
 }
 
 /// A path, or `/` if there is none.

@@ -4,7 +4,7 @@ ghost use Rattle.std.specs.Prelude.{◌≡◌, codes, string_bytes};
 ghost use Rattle.koth_http.specs.Response.{refusal_line, refusal_sentence};
 
 /// Why a browser gets no page.
-#[derive(Clone, Copy, PartialEq, Eq)]
+#[derive(Clone, Copy)]
 pub enum Refusal {
     /// What came is no request, or it has two fields `Host`, or none though it is one of HTTP/1.1.
     BadRequest,

@@ -1,11 +1,22 @@
 //! What a browser is answered.
 
-ghost use Rattle.std.specs.Prelude.{◌≡◌, ◌++◌, length, codes, decimal, IfOk, OnOk};
-ghost use Rattle.koth_http.specs.Response.{fields, page_response, refusal_page, refusal_response, response};
+ghost use Rattle.std.specs.{Prelude.{◌≡◌, IfOk}, List.{flat_map}};
+ghost use Rattle.koth_http.specs.Response.{page_response, refusal_page, refusal_response, response};
 
 use crate::refusal::Refusal;
 use itoa::Buffer;
 use std::alloc::{AllocError, Allocator};
+
+/// The page of a refusal, before its sentence and after it.
+const PAGE_BEFORE: &[u8] = b"<!DOCTYPE html>\n<html lang=\"en\"><title>King of the Hill</title><p>";
+
+const PAGE_AFTER: &[u8] = b"</p></html>\n";
+
+/// The fields of every answer, before the length of its body and after it.
+const FIELDS_BEFORE: &[u8] = b"Content-Type: text/html; charset=us-ascii\r\nContent-Length: ";
+
+const FIELDS_AFTER: &[u8] =
+    b"\r\nConnection: close\r\nCache-Control: no-store\r\nX-Content-Type-Options: nosniff\r\nContent-Security-Policy: default-src 'none'; style-src 'unsafe-inline'; script-src 'unsafe-inline'\r\n\r\n";
 
 /// The answer with a page, which is HTML in ASCII. It has the length of its body in any case, and the body only if that is asked for.
 /// The error is a lack of memory.
@@ -40,16 +51,10 @@ pub fn status_of(response: &[u8]) -> &[u8] {
 fn refusal_page<A: Allocator>(alloc: A, refusal: Refusal) -> Result<Vec<u8, A>, AllocError>
     ensures { IfOk result (λ page. page.items ≡ refusal_page refusal) }
 {
-    let mut page = Vec::new(alloc);
-    page.extend_from_slice(
-        b"<!DOCTYPE html>\n<html lang=\"en\"><title>King of the Hill</title><p>",
-    )?;
-    page.extend_from_slice(refusal.sentence())?;
-    page.extend_from_slice(b"</p></html>\n")?;
-    Ok(page)
+    joined(alloc, &[PAGE_BEFORE, refusal.sentence(), PAGE_AFTER])
 }
 
-#[tactic(auto, unfolding(crate::specs::Response::response))]
+#[tactic(auto, unfolding(crate::specs::Response::response, crate::specs::Response::fields))]
 fn response<A: Allocator>(
     alloc: A,
     line: &[u8],
@@ -58,24 +63,19 @@ fn response<A: Allocator>(
 ) -> Result<Vec<u8, A>, AllocError>
     ensures { IfOk result (λ r. r.items ≡ response line.now body.now with_body) }
 {
-    let mut response = Vec::new(alloc);
-    response.extend_from_slice(line)?;
-    put_fields(&mut response, body.len())?;
-    if with_body {
-        response.extend_from_slice(body)?;
-    }
-    Ok(response)
+    let mut digits = Buffer::new();
+    let len = digits.format(body.len()).as_bytes();
+    let sent: &[u8] = if with_body { body } else { &[] };
+    joined(alloc, &[line, FIELDS_BEFORE, len, FIELDS_AFTER, sent])
 }
 
-#[tactic(auto, unfolding(crate::specs::Response::fields))]
-fn put_fields<A: Allocator>(response: &mut Vec<u8, A>, len: usize) -> Result<(), AllocError>
-    ensures { OnOk result (response.new.items ≡ response.old.items ++ fields len) }
+/// These parts, one after the other.
+fn joined<A: Allocator>(alloc: A, parts: &[&[u8]]) -> Result<Vec<u8, A>, AllocError>
+    ensures { IfOk result (λ text. text.items ≡ flat_map (λ part. part.now) parts.now) }
 {
-    let mut digits = Buffer::new();
-    response.extend_from_slice(b"Content-Type: text/html; charset=us-ascii\r\nContent-Length: ")?;
-    response.extend_from_slice(digits.format(len).as_bytes())?;
-    response.extend_from_slice(
-        b"\r\nConnection: close\r\nCache-Control: no-store\r\nX-Content-Type-Options: nosniff\r\nContent-Security-Policy: default-src 'none'; style-src 'unsafe-inline'; script-src 'unsafe-inline'\r\n\r\n",
-    )?;
-    Ok(())
+    let mut text = Vec::new(alloc);
+    for part in parts {
+        text.extend_from_slice(part)?;
+    }
+    Ok(text)
 }

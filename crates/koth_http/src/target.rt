@@ -7,7 +7,7 @@ use itoa::Buffer;
 use std::str::from_utf8;
 
 /// A page that there can be.
-#[derive(Clone, Copy, PartialEq, Eq)]
+#[derive(Clone, Copy)]
 pub enum Page {
     /// The hill.
     Hill,
@@ -70,10 +70,12 @@ pub(crate) fn cut(text: &[u8], separator: u8) -> (&[u8], &[u8])
     ensures before { result.0.now ≡ before_first (λ b. b == separator) text.now }
     ensures after { result.1.now ≡ after_first (λ b. b == separator) text.now }
 {
-    match text.iter().position(|b| *b == separator) {
-        Some(at) => (&text[..at], &text[at + 1..]),
-        None => (text, &[]),
+    for at in 0..text.len() {
+        if text[at] == separator {
+            return (&text[..at], &text[at + 1..]);
+        }
     }
+    (text, &[])
 }
 
 fn small_number(text: &[u8]) -> Option<u32>

@@ -1,7 +1,12 @@
 -- The host is what the target names, or else the first field; what is asked of it follows part by part.
-use Rattle.{std.proofs.Common.{◌∙◌, ap, map, subst, unwrap_or}, koth_http.proofs.Hosts.read_of}
+use Rattle.std.proofs.Common.{◌≡◌, ◌∙◌, List, ℕ, None, Option, Some, ap, map, option_map, refl, subst, unwrap_or}
 use Rattle.koth_http.specs.{Asked.{asked_of, page_by, page_unless}, Host.{IsJudged, host_fault}, Target.page_named}
 use Rattle.koth_http.proofs.asked.asked_of.Goals as goal
+
+-- what is read of the host that a target names or else of the first field
+read_of : {B : Type 0} (bytes : B → List ℕ) (named : Option B) (first : B) → bytes (unwrap_or named first) ≡ unwrap_or (option_map bytes named) (bytes first)
+read_of bytes None first = refl
+read_of bytes (Some host) first = refl
 
 pub returns : goal.returns
 unfolding asked_of

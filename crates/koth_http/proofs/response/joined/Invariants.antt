@@ -1,0 +1,6 @@
+-- The parts so far.
+use Rattle.std.proofs.Common.{◌≡◌, flat_map, take}
+use Rattle.koth_http.proofs.response.joined.Given as goal
+
+abbrev pub invariant-loop-part : goal.invariant-loop-part
+invariant-loop-part g l = l.text.items ≡ flat_map (λ part. part.now) (take l.part-index l.parts)
