@@ -1,5 +1,5 @@
 -- Hosts, targets and faults, computed.
-use Rattle.std.proofs.Common.{◌≡◌, true, false, List, [], ◌∷◌, Some, None, codes, map, refl}
+use Rattle.std.proofs.Common.{◌≡◌, true, false, [], ◌∷◌, Some, None, codes, map, refl}
 use Rattle.koth_http.specs.{Host.{has_name, host_by, host_fault, host_named, host_values, origin_of}, declared.refusal.Refusal.Refusal}
 
 -- a name, in either case, with a port or without; the last host is another machine's, with a user before it

@@ -47,14 +47,12 @@ pub fn status_of(response: &[u8]) -> &[u8] {
     response.get(9..12).unwrap_or(&[])
 }
 
-#[tactic(auto, unfolding(crate::specs::Response::refusal_page))]
 fn refusal_page<A: Allocator>(alloc: A, refusal: Refusal) -> Result<Vec<u8, A>, AllocError>
     ensures { IfOk result (λ page. page.items ≡ refusal_page refusal) }
 {
     joined(alloc, &[PAGE_BEFORE, refusal.sentence(), PAGE_AFTER])
 }
 
-#[tactic(auto, unfolding(crate::specs::Response::response, crate::specs::Response::fields))]
 fn response<A: Allocator>(
     alloc: A,
     line: &[u8],

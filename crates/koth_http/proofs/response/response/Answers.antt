@@ -1,5 +1,5 @@
 -- The parts of an answer, bracketed as its definition has them.
-use Rattle.std.proofs.Common.{◌≡◌, ◌∙◌, ◌++◌, IfOk, List, ℕ, [], append_assoc, append-nil, ap, codes, decimal, if◌then◌else◌, length, refl, subst, sym}
+use Rattle.std.proofs.Common.{◌≡◌, ◌∙◌, ◌++◌, IfOk, List, ℕ, [], append_assoc, append-nil, ap, decimal, if◌then◌else◌, length, refl, subst, sym}
 use Rattle.koth_http.specs.{Response.{fields, response}, declared.response.TheConstants.{FIELDS_BEFORE, FIELDS_AFTER}}
 use Rattle.koth_http.proofs.response.response.Goals as goal
 use Rattle.koth_http.proofs.response.response.Goals.{then-with_body, else-with_body}
