@@ -61,9 +61,9 @@ fn response<A: Allocator>(
 ) -> Result<Vec<u8, A>, AllocError>
     ensures { IfOk result (λ r. r.items ≡ response line.now body.now with_body) }
 {
+    let sent: &[u8] = if with_body { body } else { &[] };
     let mut digits = Buffer::new();
     let len = digits.format(body.len()).as_bytes();
-    let sent: &[u8] = if with_body { body } else { &[] };
     joined(alloc, &[line, FIELDS_BEFORE, len, FIELDS_AFTER, sent])
 }
 

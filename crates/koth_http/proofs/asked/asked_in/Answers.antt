@@ -27,7 +27,7 @@ pub returns-in-Ok-Partial : goal.returns-in-Ok-Partial
 returns-in-Ok-Partial c =
     let partial = rw c.in-Ok-Partial.field-0-is at c.in-Ok-Partial.ensures.partial in
     let unfinished = rw c.in-Ok-Partial.field-0-is at c.in-Ok-Partial.ensures.unfinished in
-    record { found = λ head rest reads few. absurd (partial head rest reads); said = (partial, unfinished, c.if-bytes-lt-MOST_BYTES.true) }
+    record { found = λ head rest reads few. absurd (partial head rest reads); said = (partial, unfinished, omega arith) }
 
 pub returns-in-Ok-Partial-2 : goal.returns-in-Ok-Partial-2
 returns-in-Ok-Partial-2 c =
@@ -35,7 +35,7 @@ returns-in-Ok-Partial-2 c =
     let unfinished = rw c.in-Ok-Partial.field-0-is at c.in-Ok-Partial.ensures.unfinished in
     record {
       found = λ head rest reads few. absurd (partial head rest reads);
-      said = inr (inr (inr (partial, unfinished, omega (arith, c.requires, c.if-bytes-lt-MOST_BYTES.false)), c.refused.ensures));
+      said = inr (inr (inr (partial, unfinished, omega arith), c.refused.ensures));
     }
 
 pub returns-in-Err-TooManyHeaders : goal.returns-in-Err-TooManyHeaders
