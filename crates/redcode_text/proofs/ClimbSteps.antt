@@ -1,6 +1,6 @@
 -- The steps of the code are steps of the climb.
-use Rattle.std.proofs.Common.{◌≡◌, ◌≢◌, ℕ, zero, suc, ◌-◌, ◌≤◌, true, List, [], ◌∷◌, length, Option, Some, None, ℤ, refl, arith}
-use Rattle.redcode_text.specs.{declared.operator.Operator.Operator, declared.expression.Part.Part, declared.token.Token.Token, Operators.Value}
+use Rattle.std.proofs.Common.{◌≡◌, ◌≢◌, ℕ, zero, suc, ◌+◌, ◌-◌, ◌<◌, ◌≤◌, true, List, [], ◌∷◌, Some, None, refl, arith, subst}
+use Rattle.redcode_text.specs.{declared.operator.Operator.Operator, declared.expression.Part.Part, Operators.Value}
 use Rattle.{redcode_text.specs.Climbing.{Found, Climbs, Start, Begin, Continue, first_of, next_at, under, signed_found, enclosed, is_refused, parts_of}, redcode_text.proofs.Reading.upward}
 use Rattle.redcode_text.specs.Climbing as climbs
 
@@ -38,8 +38,13 @@ refused_at {d} {ps} {qs} {part} e operand inner = part_at e refl (climbs.refused
 pub refused_on : (k r d : ℕ) (ps : List Part) → k ≤ r → Climbs k d (Begin ps) None → Climbs r d (Begin ps) None
 refused_on k r d ps le c = upward (λ m. Climbs m d (Begin ps) None) (λ m h. climbs.unbegun h) k r le c
 
--- what has nothing after it is so at each rank above
-pub ended_at : (names : List ℕ → Option ℤ) (tokens : List Token) (k r d : ℕ) (ps : List Part) (v : Value) → k ≤ r → length tokens ≡ 0
-    → Climbs k d (Begin ps) (Some (v, parts_of names tokens)) → Climbs r d (Begin ps) (Some (v, parts_of names tokens))
-ended_at names [] k r d ps v le none c = upward (λ m. Climbs m d (Begin ps) (Some (v, []))) (λ m h. climbs.begun h (climbs.over refl)) k r le c
-ended_at names (token ∷ tokens) k r d ps v le none c = absurd (omega (arith, none))
+passed_by : (n k r d : ℕ) (ps rest : List Part) (v : Value) → r ≡ n + k → ((m : ℕ) → k < m → m ≤ r → next_at m rest ≡ None)
+    → Climbs k d (Begin ps) (Some (v, rest)) → Climbs r d (Begin ps) (Some (v, rest))
+passed_by zero k r d ps rest v is none c = let same : k ≡ r = omega arith in subst (λ (m : ℕ). Climbs m d (Begin ps) (Some (v, rest))) same c
+passed_by (suc n) k r d ps rest v is none c =
+    passed_by n (suc k) r d ps rest v (omega arith) (λ m lt le. none m (omega arith) le) (climbs.begun c (climbs.over (none (suc k) (omega arith) (omega arith))))
+
+-- and what is found, at each rank up to which no operator is after it
+pub passed_to : (k r d : ℕ) (ps rest : List Part) (v : Value) → k ≤ r → ((m : ℕ) → k < m → m ≤ r → next_at m rest ≡ None)
+    → Climbs k d (Begin ps) (Some (v, rest)) → Climbs r d (Begin ps) (Some (v, rest))
+passed_to k r d ps rest v le none c = passed_by (r - k) k r d ps rest v (omega arith) none c

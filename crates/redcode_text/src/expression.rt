@@ -58,14 +58,14 @@ fn climb<'t, 'l, N: Names>(tokens: &'t [Token<'l>], names: &N, rank: u8, depth: 
     ensures shorter { IfSome result (λ f. length f.1.now ≤ length tokens.entry.now) }
 {
     let (mut value, mut rest) = operand(tokens, names, depth)?;
-    let mut climbed = 0;
-    while climbed < rank && !rest.is_empty() {
+    let mut climbed = passed(rest, names, 0, rank);
+    while climbed < rank {
         while let Some((operator, behind)) = operator_at(rest, names, climbed + 1) {
             let (right, after) = right_of(behind, names, climbed, depth)?;
             value = applied(operator, value, right);
             rest = after;
         }
-        climbed += 1;
+        climbed = passed(rest, names, climbed + 1, rank);
     }
     Some((value, rest))
 }
@@ -128,6 +128,22 @@ fn around<'t, 'l, N: Names>(
         Part::Not => behind_not(operand(tokens, names, depth - 1)),
         Part::Operator(sign) => behind_sign(sign, operand(tokens, names, depth - 1)),
         _ => None,
+    }
+}
+
+/// The rank, from `from` to `last`, up to which no operator stands at the front: one look for all of these ranks.
+fn passed<N: Names>(tokens: &[Token<'_>], names: &N, from: u8, last: u8) -> u8
+    requires { from ≤ last }
+    ensures within { (from ≤ result) × (result ≤ last) }
+    ensures none { (rank : ℕ) → from < rank → rank ≤ result
+        → next_at rank (parts_of (N.values names.now) tokens.now) ≡ None }
+{
+    let Some(first) = tokens.first() else {
+        return last;
+    };
+    match part_of(first, names) {
+        Part::Operator(operator) => last.min(from.max(rank_of(operator).saturating_sub(1))),
+        _ => last,
     }
 }
 

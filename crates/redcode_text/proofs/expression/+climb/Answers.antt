@@ -1,7 +1,6 @@
-use Rattle.std.proofs.{Common.{◌≡◌, refl, sym, suc, arith, add-one}, lemmas.Grind.common_steps}
-use Rattle.redcode_text.proofs.ClimbSteps.{empty_at, refused_at, part_at, inner_at, refused_on, ended_at}
+use Rattle.std.proofs.{Common.{◌≡◌, ◌+◌, refl, sym, suc, arith, add-one}, lemmas.Grind.common_steps}
+use Rattle.redcode_text.proofs.ClimbSteps.{empty_at, refused_at, part_at, inner_at, refused_on, passed_to}
 use Rattle.redcode_text.specs.Climbing as climbs
-use Rattle.redcode_text.proofs.expression.+climb.Goals.{climb-then-loop-climbed-test+else-not-is_empty, climb-else-loop-climbed-test}
 use Rattle.redcode_text.proofs.expression.+climb.Goals as goal
 
 pub climb-returns-in_err-value-clause-climbs : goal.climb-returns-in_err-value-clause-climbs
@@ -23,22 +22,19 @@ climb-loop-operator-preserved g t c = (
   omega (arith, c.in-Some.ensures.shorter, c.in_ok-right.ensures.shorter),
 )
 
+pub climb-loop-climbed-init : goal.climb-loop-climbed-init
+climb-loop-climbed-init g t c =
+    (passed_to 0 c.passed-climbed.result c.args.depth _ _ _ c.passed-climbed.ensures.within.0 c.passed-climbed.ensures.none c.in_ok-value.ensures.climbs, c.passed-climbed.ensures.within.1, c.in_ok-value.ensures.shorter)
+
 pub climb-loop-climbed-preserved : goal.climb-loop-climbed-preserved
-climb-loop-climbed-preserved g t c = (
-  rw add-one (c.loop-operator.invariant.0 _ (climbs.over (sym (rw add-one at c.in_default.ensures.next)))),
-  omega arith,
-  c.loop-operator.invariant.1,
-)
+climb-loop-climbed-preserved g t c =
+    let next = c.loop-operator.invariant.0 _ (climbs.over (sym (rw add-one at c.in_default.ensures.next))) in
+    (passed_to (c.loop-climbed.climbed + 1) _ _ _ _ _ c.passed-climbed-in-loop-climbed.ensures.within.0 c.passed-climbed-in-loop-climbed.ensures.none (rw add-one next), c.passed-climbed-in-loop-climbed.ensures.within.1, c.loop-operator.invariant.1)
 
 pub climb-returns-clause-climbs : goal.climb-returns-clause-climbs
-climb-returns-clause-climbs g t c = elim c.loop-climbed-test.branch [
-  | climb-then-loop-climbed-test+else-not-is_empty w ↦
-      ended_at (g.N.Names.values c.args.names.now) c.loop-climbed.rest.now c.loop-climbed.climbed c.args.rank c.args.depth _ c.loop-climbed.value c.loop-climbed.invariant.1
-      (grind (arith, w.if-not-is_empty.ensures)) c.loop-climbed.invariant.0
-  | climb-else-loop-climbed-test w ↦
-      let whole : c.loop-climbed.climbed ≡ c.args.rank = omega (arith, w.loop-climbed-test.false, c.loop-climbed.invariant.1) in
-      rw whole at c.loop-climbed.invariant.0
-]
+climb-returns-clause-climbs g t c =
+    let whole : c.loop-climbed.climbed ≡ c.args.rank = omega (arith, c.loop-climbed-test.false, c.loop-climbed.invariant.1) in
+    rw whole at c.loop-climbed.invariant.0
 
 pub operand-returns-in_default-clause-climbs : goal.operand-returns-in_default-clause-climbs
 operand-returns-in_default-clause-climbs g t c = empty_at (grind (arith, common_steps))
