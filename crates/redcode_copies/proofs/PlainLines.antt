@@ -45,7 +45,7 @@ no-sign xs s h low = elim (cases_Bool (bytes_eq xs (s ∷ []))) [
 -- ---- what a change to a number does
 
 -- the number in place of the counter if nothing was joined
-abbrev plain_number : Counter → Piece → Piece
+abbrev pub plain_number : Counter → Piece → Piece
 plain_number c token = if is_counter c token then number_token c.number else token
 
 -- a token that is not this sign becomes none
@@ -75,26 +75,33 @@ numbers-plain c (suc n) (x ∷ xs) none =
 abbrev plain : Piece → Bool × Piece
 plain token = (false, token)
 
--- without an & a name is not joined
-not-join : (c : Counter) (token next after : Piece) → has_text (codes "&") next ≡ false → is_join c token next after ≡ false
-not-join c token next after none = elim (is_name token.kind) as (λ b. b && (has_text (codes "&") next && is_counter c after) ≡ false) [
-  | true ↦ rw none refl
-  | false ↦ refl
-]
+-- tokens of which this is said have no & before the counter
+pub record AreApart (c : Counter) (P : List Piece → Type 0) : Type 0 where
+  pub behind : (x : Piece) (xs : List Piece) → P (x ∷ xs) → P xs
+  pub apart : (next after : Piece) (xs : List Piece) → P (next ∷ after ∷ xs) → (has_text (codes "&") next && is_counter c after) ≡ false
 
-joined-from-plain : (c : Counter) (token : Piece) (tokens : List Piece) → has_and tokens ≡ false → joined_from c false token tokens ≡ plain token ∷ map plain tokens
-joined-from-plain c token [] none = refl
-joined-from-plain c token (next ∷ []) none = refl
-joined-from-plain c token (next ∷ after ∷ tokens) none =
-    let parts = or_parts (has_text (codes "&") next) (has_and (after ∷ tokens)) none in
-    rw (not-join c token next after parts.0)
-    (ap (λ (ts : List (Bool × Piece)). plain token ∷ ts) (joined-from-plain c next (after ∷ tokens) parts.1))
+without-and : (c : Counter) → AreApart c (λ xs. has_and xs ≡ false)
+without-and c = record {
+  behind = λ x xs none. (or_parts (has_text (codes "&") x) (has_and xs) none).1;
+  apart = λ next after xs none. rw ((or_parts (has_text (codes "&") next) (has_and (after ∷ xs)) none).0) refl
+}
 
-joined-plain : (c : Counter) (tokens : List Piece) → has_and tokens ≡ false → joined c tokens ≡ map plain tokens
-joined-plain c [] none = refl
-joined-plain c (token ∷ tokens) none = joined-from-plain c token tokens (or_parts (has_text (codes "&") token) (has_and tokens) none).1
+pub and-false : (b t : Bool) → t ≡ false → (b && t) ≡ false
+and-false b t none = grind arith
 
-kept-plain : (tokens : List Piece) → kept (map plain tokens) ≡ tokens
+-- so no name is joined
+joined-from-plain : (c : Counter) (P : List Piece → Type 0) → AreApart c P → (token : Piece) (tokens : List Piece) → P tokens → joined_from c false token tokens ≡ plain token ∷ map plain tokens
+joined-from-plain c P are token [] none = refl
+joined-from-plain c P are token (next ∷ []) none = refl
+joined-from-plain c P are token (next ∷ after ∷ tokens) none =
+    rw (and-false (is_name token.kind) _ (are.apart next after tokens none))
+    (ap (λ (ts : List (Bool × Piece)). plain token ∷ ts) (joined-from-plain c P are next (after ∷ tokens) (are.behind next (after ∷ tokens) none)))
+
+pub joined-plain : (c : Counter) (P : List Piece → Type 0) → AreApart c P → (tokens : List Piece) → P tokens → joined c tokens ≡ map plain tokens
+joined-plain c P are [] none = refl
+joined-plain c P are (token ∷ tokens) none = joined-from-plain c P are token tokens (are.behind token tokens none)
+
+pub kept-plain : (tokens : List Piece) → kept (map plain tokens) ≡ tokens
 kept-plain [] = refl
 kept-plain (token ∷ tokens) = ap (λ (ts : List Piece). token ∷ ts) (kept-plain tokens)
 
@@ -134,13 +141,12 @@ behind-plain c (Word.Operation op) xs = operation-plain c xs
 behind-plain c Word.Pspace xs = operation-plain c xs
 behind-plain c _ xs = numbered-plain c xs
 
-copied-plain : (c : Counter) (form : LineForm) (word : Option Word) (xs : List Piece) → has_and xs ≡ false
+pub copied-plain : (c : Counter) (P : List Piece → Type 0) → AreApart c P → (form : LineForm) (word : Option Word) (xs : List Piece) → P xs
     → copied_tokens c form word xs ≡ changed_from (plain_number c) (kept_count form word xs) xs
-copied-plain c LineForm.Statement None xs none = rw (joined-plain c xs none) (labels-plain c xs)
-copied-plain c LineForm.Statement (Some word) [] none = refl
-copied-plain c LineForm.Statement (Some word) (x ∷ xs) none =
-    rw (joined-plain c xs (or_parts (has_text (codes "&") x) (has_and xs) none).1) (ap (λ (ts : List Piece). x ∷ ts) (behind-plain c word xs))
-copied-plain c _ word xs none = rw (joined-plain c xs none) (numbered-plain c xs)
+copied-plain c P are LineForm.Statement None xs none = rw (joined-plain c P are xs none) (labels-plain c xs)
+copied-plain c P are LineForm.Statement (Some word) [] none = refl
+copied-plain c P are LineForm.Statement (Some word) (x ∷ xs) none = rw (joined-plain c P are xs (are.behind x xs none)) (ap (λ (ts : List Piece). x ∷ ts) (behind-plain c word xs))
+copied-plain c P are _ word xs none = rw (joined-plain c P are xs none) (numbered-plain c xs)
 
 -- ---- as many tokens stay in each copy
 
@@ -175,7 +181,7 @@ count-same c _ word xs = refl
 
 -- ---- all counters
 
-changed-twice : (f g h : Piece → Piece) (n : ℕ) (xs : List Piece) → ((x : Piece) → g (f x) ≡ h x) → changed_from g n (changed_from f n xs) ≡ changed_from h n xs
+pub changed-twice : (f g h : Piece → Piece) (n : ℕ) (xs : List Piece) → ((x : Piece) → g (f x) ≡ h x) → changed_from g n (changed_from f n xs) ≡ changed_from h n xs
 changed-twice f g h zero [] same = refl
 changed-twice f g h zero (x ∷ xs) same = rw (same x, changed-twice f g h zero xs same) refl
 changed-twice f g h (suc n) [] same = refl
@@ -195,7 +201,7 @@ none-changed cs (suc n) (x ∷ xs) none =
     let parts = or_parts (is_name x.kind && is_some (number_of cs x.text)) (has_number cs xs) none in
     ap (λ (ts : List Piece). x ∷ ts) (none-changed cs n xs parts.1)
 
-no-number : (xs : List Piece) → has_number [] xs ≡ false
+pub no-number : (xs : List Piece) → has_number [] xs ≡ false
 no-number [] = refl
 no-number (x ∷ xs) = elim (is_name x.kind) as (λ b. ((b && false) || has_number [] xs) ≡ false) [
   | true ↦ no-number xs
@@ -207,7 +213,7 @@ next-by : (c : Counter) (cs : List Counter) (x : Piece) (named same : Bool) → 
 next-by c cs x named same is = grind arith
 
 -- the first counter comes first
-number-next : (c : Counter) (cs : List Counter) (x : Piece) → number_by cs (plain_number c x) ≡ number_by (c ∷ cs) x
+pub number-next : (c : Counter) (cs : List Counter) (x : Piece) → number_by cs (plain_number c x) ≡ number_by (c ∷ cs) x
 number-next c cs x = next-by c cs x (is_name x.kind) (bytes_eq x.text c.name) refl
 
 -- a line without an & within copies
@@ -217,8 +223,8 @@ copies-plain [] line labels none =
 copies-plain (c ∷ cs) line labels none =
     let n = kept_count line.form line.word line.tokens in
     let new : List Piece = changed_from (plain_number c) n line.tokens in
-    let front : kept (joined c line.front) ≡ line.front = ap kept (joined-plain c line.front labels) ∙ kept-plain line.front in
-    let tokens : copied_tokens c line.form line.word line.tokens ≡ new = copied-plain c line.form line.word line.tokens none in
+    let front : kept (joined c line.front) ≡ line.front = ap kept (joined-plain c _ (without-and c) line.front labels) ∙ kept-plain line.front in
+    let tokens : copied_tokens c line.form line.word line.tokens ≡ new = copied-plain c _ (without-and c) line.form line.word line.tokens none in
     let here : in_copy c line ≡ record line { tokens = new } = rw (front, tokens) refl in
     let behind : in_copies cs (record line { tokens = new }) ≡ plain_copy cs (record line { tokens = new }) =
     copies-plain cs (record line { tokens = new }) labels (numbers-plain c n line.tokens none) in

@@ -1,8 +1,9 @@
 -- The counters of open blocks, the outermost first: the index of the first block whose counter has a name.
 use Rattle.std.proofs.Common.{◌≡◌, ℕ, zero, suc, ◌<◌, ◌≤◌, ◌^◌, Bool, true, false, if◌then◌else◌, List, [], ◌∷◌, ◌++◌, length, get_or, Option, Some, None, refl, sym, ap, ◌∙◌, subst, inl}
-use Rattle.std.proofs.{Common.{inr, arith, ◌+◌, ◌&&◌, ◌||◌, reverse, take, eqb}, lemmas.Bool.{cases_Bool, eqb-true}, lemmas.Slice.Eq.bytes_eq-Decides}
-use Rattle.{std.specs.{Option.{is_some, option_map}, Str.bytes_eq}, indexmap.specs.IndexMap.insert_entry, std.proofs.{lemmas.Grind.common_steps, lemmas.List.{reverse-append, take_more}}}
-use Rattle.redcode_expand.specs.Rest.{OpenBlock, ArePlaced, counters_in, place_in, counters_of}
+use Rattle.std.proofs.{Common.{inr, arith, ◌+◌, ◌-◌, ◌&&◌, ◌||◌, MatchOption, reverse, take, drop, eqb}, lemmas.Bool.{cases_Bool, eqb-true, or_parts}, lemmas.Slice.Eq.bytes_eq-Decides}
+use Rattle.{std.specs.{Bool.⊤, Option.{is_some, option_map}, Str.bytes_eq}, indexmap.specs.IndexMap.insert_entry, std.proofs.{lemmas.Grind.common_steps, lemmas.List.{reverse-append, drop-drop, drop_more, take_more, map-append}}}
+use Rattle.{redcode_text.specs.{declared.token.Token.Token, Tokens.{piece_of, pieces}}, redcode_lines.specs.Line.is_name_token}
+use Rattle.{redcode_copies.proofs.WrittenLines.unnamed-copies, redcode_expand.specs.Rest.{OpenBlock, ArePlaced, counters_in, place_in, counters_of}}
 use Rattle.redcode_expand.proofs.Words.{number_of, has_number, LabelList, address_of, Piece, SourceLine, is_name, Counter, in_copy, in_copies}
 
 pub None≢Some : {X : Type 0} (x : X) (o : Option X) → o ≡ None → o ≡ Some x → ⊥
@@ -17,7 +18,7 @@ later-place o p h1 = grind arith
 -- ---- the first block of a name
 
 -- what is said of the index of the first block of a name
-abbrev IsFirst : List OpenBlock → List ℕ → OpenBlock → ℕ → Type 0
+abbrev pub IsFirst : List OpenBlock → List ℕ → OpenBlock → ℕ → Type 0
 IsFirst bs name d p = (p < length bs) × (bytes_eq name (get_or bs p d).counter.name ≡ true) × (number_of (counters_in bs) name ≡ Some (get_or bs p d).counter.number)
 
 first-here : (name : List ℕ) (b : OpenBlock) (bs : List OpenBlock) (d : OpenBlock) → bytes_eq name b.counter.name ≡ true → IsFirst (b ∷ bs) name d 0
@@ -26,7 +27,7 @@ first-here name b bs d is = (omega arith, is, ap (λ (t : Bool). if t then Some 
 first-later : (name : List ℕ) (b : OpenBlock) (bs : List OpenBlock) (d : OpenBlock) (q : ℕ) → bytes_eq name b.counter.name ≡ false → IsFirst bs name d q → IsFirst (b ∷ bs) name d (suc q)
 first-later name b bs d q h1 h2 = grind arith
 
-first-is : (bs : List OpenBlock) (name : List ℕ) (d : OpenBlock) (p : ℕ) → place_in bs name ≡ Some p → IsFirst bs name d p
+pub first-is : (bs : List OpenBlock) (name : List ℕ) (d : OpenBlock) (p : ℕ) → place_in bs name ≡ Some p → IsFirst bs name d p
 first-is [] name d p is = cc
 first-is (b ∷ bs) name d p is = elim (cases_Bool (bytes_eq name b.counter.name)) [
   | inl t ↦
@@ -39,9 +40,13 @@ first-is (b ∷ bs) name d p is = elim (cases_Bool (bytes_eq name b.counter.name
       subst (IsFirst (b ∷ bs) name d) (sym later.2) (first-later name b bs d later.0 f (first-is bs name d later.0 later.1))
 ]
 
-none-is : (bs : List OpenBlock) (name : List ℕ) → place_in bs name ≡ None → number_of (counters_in bs) name ≡ None
+pub none-is : (bs : List OpenBlock) (name : List ℕ) → place_in bs name ≡ None → number_of (counters_in bs) name ≡ None
 none-is [] name is = refl
 none-is (b ∷ bs) name is = grind (arith, none-is bs name)
+
+pub placed-within : (bs : List OpenBlock) (name : List ℕ) (p : ℕ) → place_in bs name ≡ Some p → p < length bs
+placed-within [] name p is = cc
+placed-within (b ∷ bs) name p is = (first-is (b ∷ bs) name b p is).0
 
 -- a block of the name is not before the first
 some-is : (bs : List OpenBlock) (name : List ℕ) (d : OpenBlock) (p : ℕ) → p < length bs → bytes_eq name (get_or bs p d).counter.name ≡ true → place_in bs name ≡ None → ⊥
@@ -49,28 +54,105 @@ some-is [] name d p within is none = omega (arith, within)
 some-is (b ∷ bs) name d zero within is none = grind arith
 some-is (b ∷ bs) name d (suc p) within is none = grind (arith, some-is bs name d p)
 
--- ---- what the place that is known of a name says
+-- ---- what the place that is known of a name says of the first block of this name
 
 option-cases : {X : Type 0} (o : Option X) (G : Type 0) → (o ≡ None → G) → ((x : X) → o ≡ Some x → G) → G
 option-cases o G h1 h2 = grind arith
 
-pub number-none : (places : LabelList) (bs : List OpenBlock) (name : List ℕ) → ArePlaced places bs → address_of places name ≡ None → number_of (counters_in bs) name ≡ None
-number-none places bs name h1 h2 = grind (arith, none-is bs name, None≢Some)
+pub place-none : (places : LabelList) (bs : List OpenBlock) (name : List ℕ) → ArePlaced places bs → address_of places name ≡ None → place_in bs name ≡ None
+place-none places bs name placed none =
+    option-cases (place_in bs name) (place_in bs name ≡ None) (λ is. is) (λ q there. absurd (None≢Some q (address_of places name) none (placed name q there)))
 
-pub number-past : (places : LabelList) (bs : List OpenBlock) (name : List ℕ) (p : ℕ) → ArePlaced places bs → address_of places name ≡ Some p → length bs ≤ p
-    → number_of (counters_in bs) name ≡ None
-number-past places [] name p placed is past = refl
-number-past places (b ∷ bs) name p placed is past =
-    option-cases (place_in (b ∷ bs) name) (number_of (counters_in (b ∷ bs)) name ≡ None) (none-is (b ∷ bs) name)
+pub place-past : (places : LabelList) (bs : List OpenBlock) (name : List ℕ) (p : ℕ) → ArePlaced places bs → address_of places name ≡ Some p → length bs ≤ p → place_in bs name ≡ None
+place-past places [] name p placed is past = refl
+place-past places (b ∷ bs) name p placed is past =
+    option-cases (place_in (b ∷ bs) name) (place_in (b ∷ bs) name ≡ None) (λ none. none)
     (λ q there. absurd (omega (arith, past, (first-is (b ∷ bs) name b q there).0, same-some q p (address_of places name) (placed name q there) is)))
 
-pub number-other : (places : LabelList) (bs : List OpenBlock) (name : List ℕ) (d : OpenBlock) (p : ℕ) → ArePlaced places bs → address_of places name ≡ Some p
-    → bytes_eq name (get_or bs p d).counter.name ≡ false → number_of (counters_in bs) name ≡ None
-number-other places bs name d p h1 h2 h3 = grind (arith, none-is bs name, same-some, first-is)
+pub place-other : (places : LabelList) (bs : List OpenBlock) (name : List ℕ) (d : OpenBlock) (p : ℕ) → ArePlaced places bs → address_of places name ≡ Some p
+    → bytes_eq name (get_or bs p d).counter.name ≡ false → place_in bs name ≡ None
+place-other places bs name d p h1 h2 h3 = grind (arith, same-some, first-is)
 
-pub number-there : (places : LabelList) (bs : List OpenBlock) (name : List ℕ) (d : OpenBlock) (p : ℕ) → ArePlaced places bs → address_of places name ≡ Some p → p < length bs
-    → bytes_eq name (get_or bs p d).counter.name ≡ true → number_of (counters_in bs) name ≡ Some (get_or bs p d).counter.number
-number-there places bs name d p h1 h2 h3 h4 = grind (arith, some-is, first-is, same-some)
+pub place-there : (places : LabelList) (bs : List OpenBlock) (name : List ℕ) (d : OpenBlock) (p : ℕ) → ArePlaced places bs → address_of places name ≡ Some p → p < length bs
+    → bytes_eq name (get_or bs p d).counter.name ≡ true → place_in bs name ≡ Some p
+place-there places bs name d p placed is within named =
+    option-cases (place_in bs name) (place_in bs name ≡ Some p) (λ none. absurd (some-is bs name d p within named none))
+    (λ q there. there ∙ ap Some (same-some q p (address_of places name) (placed name q there) is))
+
+-- ---- the first block of a name, found by comparing one after another
+
+later-by : (o : Option ℕ) (i : ℕ) → option_map (λ p. p + i) (option_map (λ p. suc p) o) ≡ option_map (λ p. p + (i + 1)) o
+later-by o i = grind arith
+
+pub place-at : (bs : List OpenBlock) (name : List ℕ) (i : ℕ) (d : OpenBlock) → i < length bs → place_in bs name ≡ option_map (λ p. p + i) (place_in (drop i bs) name)
+    → bytes_eq name (get_or bs i d).counter.name ≡ true → place_in bs name ≡ Some i
+place-at bs name i d within is named =
+    is ∙ ap (λ (xs : List OpenBlock). option_map (λ p. p + i) (place_in xs name)) (drop_more bs i d within)
+    ∙ ap (λ (t : Bool). option_map (λ p. p + i) (if t then Some 0 else option_map (λ p. suc p) (place_in (drop (i + 1) bs) name))) named ∙ ap Some (omega arith)
+
+pub place-on : (bs : List OpenBlock) (name : List ℕ) (i : ℕ) (d : OpenBlock) → i < length bs → place_in bs name ≡ option_map (λ p. p + i) (place_in (drop i bs) name)
+    → bytes_eq name (get_or bs i d).counter.name ≡ false → place_in bs name ≡ option_map (λ p. p + (i + 1)) (place_in (drop (i + 1) bs) name)
+place-on bs name i d within is other =
+    is ∙ ap (λ (xs : List OpenBlock). option_map (λ p. p + i) (place_in xs name)) (drop_more bs i d within)
+    ∙ ap (λ (t : Bool). option_map (λ p. p + i) (if t then Some 0 else option_map (λ p. suc p) (place_in (drop (i + 1) bs) name))) other
+    ∙ later-by (place_in (drop (i + 1) bs) name) i
+
+-- ---- blocks from one on
+
+pub none-drop : (f : ℕ) (bs : List OpenBlock) (name : List ℕ) → place_in bs name ≡ None → place_in (drop f bs) name ≡ None
+none-drop zero bs name none = none
+none-drop (suc f) [] name none = refl
+none-drop (suc f) (b ∷ bs) name none = grind (arith, none-drop f bs name)
+
+pub place-drop : (f : ℕ) (bs : List OpenBlock) (name : List ℕ) (p : ℕ) → place_in bs name ≡ Some p → f ≤ p → place_in (drop f bs) name ≡ Some (p - f)
+place-drop zero bs name p is past = is ∙ ap Some (omega arith)
+place-drop (suc f) [] name p is past = cc
+place-drop (suc f) (b ∷ bs) name p is past = elim (cases_Bool (bytes_eq name b.counter.name)) [
+  | inl t ↦ absurd (omega (arith, past, same-some 0 p (Some 0) refl (sym (ap (λ (t : Bool). if t then Some 0 else option_map (λ place. suc place) (place_in bs name)) t) ∙ is)))
+  | inr other ↦
+      let later = later-place (place_in bs name) p (sym (ap (λ (t : Bool). if t then Some 0 else option_map (λ place. suc place) (place_in bs name)) other) ∙ is) in
+      place-drop f bs name later.0 later.1 (omega (arith, past, later.2)) ∙ ap Some (omega (arith, later.2))
+]
+
+-- no block before the first of a name has it
+unplaced : (bs : List OpenBlock) (name : List ℕ) (k : ℕ) → MatchOption (place_in bs name) ⊤ (λ p. k ≤ p) → number_of (counters_in (take k bs)) name ≡ None
+unplaced bs name zero none = refl
+unplaced [] name (suc k) none = refl
+unplaced (b ∷ bs) name (suc k) none = grind (arith, unplaced bs name k)
+
+fewer-unplaced : (bs : List OpenBlock) (name : List ℕ) (k n : ℕ) → k ≤ n → number_of (counters_in (take n bs)) name ≡ None → number_of (counters_in (take k bs)) name ≡ None
+fewer-unplaced bs name zero n few none = refl
+fewer-unplaced [] name (suc k) n few none = refl
+fewer-unplaced (b ∷ bs) name (suc k) zero few none = absurd (omega (arith, few))
+fewer-unplaced (b ∷ bs) name (suc k) (suc n) few none = grind (arith, fewer-unplaced bs name k n)
+
+pub fewer-named : (bs : List OpenBlock) (k n : ℕ) (ts : List Piece) → k ≤ n → has_number (counters_in (take n bs)) ts ≡ false → has_number (counters_in (take k bs)) ts ≡ false
+fewer-named bs k n [] few none = refl
+fewer-named bs k n (x ∷ ts) few none = grind (arith, fewer-unplaced bs x.text k n, fewer-named bs k n ts)
+
+named-last : (cs : List Counter) (ts : List Piece) (t : Piece) → has_number cs ts ≡ false → (is_name t.kind && is_some (number_of cs t.text)) ≡ false → has_number cs (ts ++ t ∷ []) ≡ false
+named-last cs [] t none last = rw last refl
+named-last cs (x ∷ ts) t none last =
+    let parts = or_parts _ (has_number cs ts) none in
+    rw (parts.0, named-last cs ts t parts.1 last) refl
+
+none-last : (named : Bool) (o : Option ℕ) → (named ≡ true → o ≡ None) → (named && is_some o) ≡ false
+none-last true o none = ap is_some (none refl)
+none-last false o none = refl
+
+-- a token more, of which no block so far has the name
+pub unnamed-more : (bs : List OpenBlock) (k n : ℕ) (ts : List Token) (i : ℕ) (d : Token) → i < length ts → k ≤ n → has_number (counters_in (take n bs)) (pieces (take i ts)) ≡ false
+    → (is_name_token (piece_of (get_or ts i d)) ≡ true → MatchOption (place_in bs (piece_of (get_or ts i d)).text) ⊤ (λ p. k ≤ p)) → has_number (counters_in (take k bs)) (pieces (take (i + 1) ts)) ≡ false
+unnamed-more bs k n ts i d within few none last =
+    let token = piece_of (get_or ts i d) in
+    let cs = counters_in (take k bs) in
+    let whole : pieces (take (i + 1) ts) ≡ pieces (take i ts) ++ token ∷ [] = ap (λ (xs : List Token). pieces xs) (take_more ts i d within) ∙ map-append piece_of (take i ts) (get_or ts i d ∷ []) in
+    ap (has_number cs) whole
+    ∙ named-last cs (pieces (take i ts)) token (fewer-named bs k n (pieces (take i ts)) few none) (none-last (is_name token.kind) (number_of cs token.text) (λ is. unplaced bs token.text k (last is)))
+
+pub unnamed-other : (bs : List OpenBlock) (n : ℕ) (ts : List Token) (i : ℕ) (d : Token) → i < length ts → has_number (counters_in (take n bs)) (pieces (take i ts)) ≡ false
+    → false ≡ is_name_token (piece_of (get_or ts i d)) → has_number (counters_in (take n bs)) (pieces (take (i + 1) ts)) ≡ false
+unnamed-other bs n ts i d within none other = unnamed-more bs n n ts i d within (omega arith) none (λ is. cc)
 
 -- ---- one block fewer, and one more
 
@@ -109,26 +191,19 @@ address-inserted (e ∷ es) k place name =
     inserted-by name k e.0 place e.1 (address_of es name) _ (bytes_eq k e.0) refl
     (written-by (bytes_eq k e.0) e es (insert_entry bytes_eq es k place) k place name (address-inserted es k place name))
 
-not-none : (bs : List OpenBlock) (name : List ℕ) (p : ℕ) → place_in bs name ≡ Some p → number_of (counters_in bs) name ≡ None → ⊥
-not-none [] name p is none = None≢Some p None refl is
-not-none (b ∷ bs) name p is none =
-    None≢Some (get_or (b ∷ bs) p b).counter.number (number_of (counters_in (b ∷ bs)) name) none (first-is (b ∷ bs) name b p is).2
-
 -- a name that no block's counter has may get any place
-pub placed-set : (places : LabelList) (bs : List OpenBlock) (k : List ℕ) (place : ℕ) → ArePlaced places bs → number_of (counters_in bs) k ≡ None → ArePlaced (insert_entry bytes_eq places k place) bs
-placed-set places bs k place h1 h2 = grind (arith, bytes_eq-Decides, None≢Some, address-inserted, not-none)
+pub placed-set : (places : LabelList) (bs : List OpenBlock) (k : List ℕ) (place : ℕ) → ArePlaced places bs → place_in bs k ≡ None → ArePlaced (insert_entry bytes_eq places k place) bs
+placed-set places bs k place h1 h2 = grind (arith, bytes_eq-Decides, None≢Some, address-inserted)
 
 -- which is its place from then on
 pub placed-next : (places : LabelList) (k : List ℕ) (place : ℕ) → address_of (insert_entry bytes_eq places k place) k ≡ Some place
 placed-next places k place = grind (arith, address-inserted, bytes_eq-Decides)
 
--- a name that has a number has a place
-pub numbered-place : (bs : List OpenBlock) (name : List ℕ) → is_some (number_of (counters_in bs) name) ≡ true → place_in bs name ≡ None → ⊥
-numbered-place bs name there none = grind (arith, none-is)
+pub some-place : (o : Option ℕ) → is_some o ≡ true → o ≡ None → ⊥
+some-place o h1 h2 = grind arith
 
--- one that is none has none
-pub unnumbered : (o : Option ℕ) → is_some o ≡ false → o ≡ None
-unnumbered o h1 = grind arith
+pub no-place : (o : Option ℕ) → is_some o ≡ false → o ≡ None
+no-place o h1 = grind arith
 
 -- ---- counters
 
@@ -141,17 +216,26 @@ pub counters-reverse : (bs : List OpenBlock) → counters_of (reverse bs) ≡ co
 counters-reverse [] = refl
 counters-reverse (b ∷ bs) = ap counters_of (reverse-append (b ∷ []) bs) ∙ counters-outer (reverse bs) b ∙ ap (λ (cs : List Counter). b.counter ∷ cs) (counters-reverse bs)
 
--- ---- one block more
+-- ---- copies that change nothing
 
-counters-more : (bs : List OpenBlock) (b : OpenBlock) → counters_in (bs ++ b ∷ []) ≡ counters_in bs ++ b.counter ∷ []
-counters-more [] b = refl
-counters-more (x ∷ xs) b = ap (λ (cs : List Counter). x.counter ∷ cs) (counters-more xs b)
+copies-split : (k : ℕ) (bs : List OpenBlock) (line : SourceLine) → in_copies (counters_in bs) line ≡ in_copies (counters_in (drop k bs)) (in_copies (counters_in (take k bs)) line)
+copies-split zero bs line = refl
+copies-split (suc k) [] line = refl
+copies-split (suc k) (b ∷ bs) line = copies-split k bs (in_copy b.counter line)
 
-copies-more : (cs : List Counter) (c : Counter) (line : SourceLine) → in_copies (cs ++ c ∷ []) line ≡ in_copy c (in_copies cs line)
-copies-more [] c line = refl
-copies-more (x ∷ xs) c line = copies-more xs c (in_copy x line)
+-- a line that names none of the next blocks reads in the copies after these as in all
+pub copies-on : (bs : List OpenBlock) (from k : ℕ) (line : SourceLine) → has_number (counters_in (take k (drop from bs))) line.front ≡ false
+    → has_number (counters_in (take k (drop from bs))) line.tokens ≡ false → in_copies (counters_in (drop from bs)) line ≡ in_copies (counters_in (drop (from + k) bs)) line
+copies-on bs from k line front tokens =
+    copies-split k (drop from bs) line ∙ ap (in_copies (counters_in (drop k (drop from bs)))) (unnamed-copies (counters_in (take k (drop from bs))) line front tokens)
+    ∙ ap (λ (xs : List OpenBlock). in_copies (counters_in xs) line) (drop-drop k from bs)
 
--- the line within one block more
-pub copied-more : (bs : List OpenBlock) (i : ℕ) (b : OpenBlock) (counter : Counter) (line read new : SourceLine) → i < length bs → b ≡ get_or bs i b → counter ≡ b.counter
-    → read ≡ in_copies (counters_in (take i bs)) line → new ≡ in_copy counter read → new ≡ in_copies (counters_in (take (i + 1) bs)) line
-copied-more bs i b counter line read new h1 h2 h3 h4 h5 = grind (arith, copies-more, counters-more, take_more, common_steps)
+-- one within the copy of the next block
+pub copies-next : (bs : List OpenBlock) (i : ℕ) (b : OpenBlock) (counter : Counter) (line new : SourceLine) → i < length bs → b ≡ get_or bs i b → counter ≡ b.counter
+    → new ≡ in_copy counter line → in_copies (counters_in (drop i bs)) line ≡ in_copies (counters_in (drop (i + 1) bs)) new
+copies-next bs i b counter line new within is same written =
+    ap (λ (xs : List OpenBlock). in_copies (counters_in xs) line) (drop_more bs i b within)
+    ∙ ap (in_copies (counters_in (drop (i + 1) bs))) (ap (λ (x : OpenBlock). in_copy x.counter line) (sym is) ∙ ap (λ (c : Counter). in_copy c line) (sym same) ∙ sym written)
+
+pub copies-none : (bs : List OpenBlock) (i : ℕ) (line : SourceLine) → length bs ≤ i → in_copies (counters_in (drop i bs)) line ≡ line
+copies-none bs i line past = grind (arith, common_steps)

@@ -1,14 +1,16 @@
 //! The blocks whose copies are being written.
 
-ghost use Rattle.std.specs.Prelude.{◌≡◌, ◌∷◌, [], length, true, None, Some, IfOk, OnOk, MatchOption};
-ghost use Rattle.{redcode_lines.specs.Views.line_read, redcode_copies.specs.{Counter.in_copies, Plain.number_of, Views.with_tokens}};
+ghost use Rattle.std.specs.Prelude.{◌≡◌, ◌+◌, ◌≤◌, ◌∷◌, [], length, take, drop, true, false, ⊤, None, Some, IfOk, OnOk, MatchOption};
+ghost use Rattle.{redcode_text.specs.Tokens.pieces, redcode_lines.specs.Views.line_read};
+ghost use Rattle.redcode_copies.specs.{Counter.in_copies, Plain.{has_number, number_of}, Views.with_tokens};
 ghost use Rattle.{redcode_names.specs.Name.address_of, redcode_expand.specs.Rest.{ArePlaced, counters_in, counters_of, has_none, place_in}};
 
 use crate::open_block::OpenBlock;
 use bumpalo::Bump;
 use redcode_copies::{Counters, LineCopy, in_copy, plain_copy};
-use redcode_lines::{Reading, has_and};
+use redcode_lines::{Reading, has_and, is_name};
 use redcode_names::{CounterNames, NameHash};
+use redcode_text::Token;
 use std::alloc::{AllocError, Allocator};
 use std::marker::Model;
 
@@ -88,7 +90,8 @@ impl<'s, A: Allocator + Copy> OpenBlocks<'s, A> {
             return Ok(None);
         }
         if has_and(line.front) || has_and(line.tokens) {
-            let copy = in_blocks(self.alloc, self.region, self.blocks.as_slice(), line)?;
+            let blocks = self.blocks.as_slice();
+            let copy = in_blocks(self.alloc, self.region, &self.names, blocks, line)?;
             return Ok(Some(copy));
         }
         plain_copy(self.alloc, self.region, self, line)
@@ -103,20 +106,98 @@ impl<A: Allocator + Copy> Counters for OpenBlocks<'_, A> {
     }
 }
 
-/// A line within copies of these blocks, the outermost first.
+/// A line within copies of these blocks, the outermost first. A copy of a block whose counter the line doesn't name changes nothing.
 fn in_blocks<'s, A: Allocator + Copy>(
     alloc: A,
     region: &'s Bump<A>,
+    names: &CounterNames<'_, A>,
     blocks: &[OpenBlock<'s>],
     line: Reading<'_, 's>,
 ) -> Result<LineCopy<'s, A>, AllocError>
+    requires { ArePlaced names.now blocks.now }
     ensures { IfOk result (λ copy. with_tokens (line_read line.entry) copy ≡ in_copies (counters_in blocks.now) (line_read line.entry)) }
 {
     let mut copy = LineCopy::of(alloc, line)?;
-    for block in blocks {
+    let mut from = 0;
+    while from < blocks.len() {
+        let next = from + unnamed(names, blocks, from, copy.reading(line));
+        if next == blocks.len() {
+            return Ok(copy);
+        }
+        let block = &blocks[next];
         copy = in_copy(alloc, region, &block.counter, copy.reading(line))?;
+        from = next + 1;
     }
     Ok(copy)
+}
+
+/// The number of blocks from this index on before the first whose counter the line names.
+fn unnamed<A: Allocator + Copy>(
+    names: &CounterNames<'_, A>,
+    blocks: &[OpenBlock<'_>],
+    from: usize,
+    line: Reading<'_, '_>,
+) -> usize
+    requires placed { ArePlaced names.now blocks.now }
+    requires within { from ≤ length blocks.now }
+    ensures within { from + result ≤ length blocks.now }
+    ensures front { has_number (counters_in (take result (drop from blocks.now))) (line_read line.entry).front ≡ false }
+    ensures tokens { has_number (counters_in (take result (drop from blocks.now))) (line_read line.entry).tokens ≡ false }
+{
+    let most = blocks.len() - from;
+    let front = unnamed_by(names, blocks, from, most, line.front);
+    unnamed_by(names, blocks, from, front, line.tokens)
+}
+
+/// The number of blocks from this index on before the first whose counter one of the tokens is, or `most`, which is given, if it is less.
+fn unnamed_by<A: Allocator + Copy>(
+    names: &CounterNames<'_, A>,
+    blocks: &[OpenBlock<'_>],
+    from: usize,
+    most: usize,
+    tokens: &[Token<'_>],
+) -> usize
+    requires placed { ArePlaced names.now blocks.now }
+    requires within { from ≤ length blocks.now }
+    ensures most { result ≤ most }
+    ensures none { has_number (counters_in (take result (drop from blocks.now))) (pieces tokens.now) ≡ false }
+{
+    let mut count = most;
+    for token in tokens {
+        if is_name(token) {
+            count = before(count, place_from(names, blocks, from, token.text));
+        }
+    }
+    count
+}
+
+/// The lesser of a number and of a place, if there is one.
+fn before(count: usize, place: Option<usize>) -> usize
+    ensures most { result ≤ count }
+    ensures place { MatchOption place ⊤ (λ place. result ≤ place) }
+{
+    match place {
+        Some(place) => count.min(place),
+        None => count,
+    }
+}
+
+/// The place of the first block of this name among those from this index on, counted from there.
+fn place_from<A: Allocator + Copy>(
+    names: &CounterNames<'_, A>,
+    blocks: &[OpenBlock<'_>],
+    from: usize,
+    name: &[u8],
+) -> Option<usize>
+    requires placed { ArePlaced names.now blocks.now }
+    requires within { from ≤ length blocks.now }
+    ensures { result ≡ place_in (drop from blocks.now) name.now }
+{
+    let place = place_of(names, blocks, name)?;
+    if place < from {
+        return place_among(&blocks[from..], name);
+    }
+    Some(place - from)
 }
 
 /// The number of the first counter among the blocks that has this name.
@@ -128,8 +209,22 @@ fn number_of<A: Allocator + Copy>(
     requires { ArePlaced names.now blocks.now }
     ensures { result ≡ number_of (counters_in blocks.now) name.now }
 {
+    let place = place_of(names, blocks, name)?;
+    let block = &blocks[place];
+    Some(block.copy())
+}
+
+/// The index of the first block of this name.
+fn place_of<A: Allocator + Copy>(
+    names: &CounterNames<'_, A>,
+    blocks: &[OpenBlock<'_>],
+    name: &[u8],
+) -> Option<usize>
+    requires { ArePlaced names.now blocks.now }
+    ensures { result ≡ place_in blocks.now name.now }
+{
     if blocks.len() <= FEW {
-        return number_among(blocks, name);
+        return place_among(blocks, name);
     }
     let place = names.place_of(name)?;
     if place >= blocks.len() {
@@ -137,22 +232,20 @@ fn number_of<A: Allocator + Copy>(
     }
     let block = &blocks[place];
     if block.is_named(name) {
-        Some(block.copy())
+        Some(place)
     } else {
         None
     }
 }
 
 /// The same, found by comparing one block after another.
-fn number_among(blocks: &[OpenBlock<'_>], name: &[u8]) -> Option<u64>
-    ensures { result ≡ number_of (counters_in blocks.now) name.now }
+fn place_among(blocks: &[OpenBlock<'_>], name: &[u8]) -> Option<usize>
+    ensures { result ≡ place_in blocks.now name.now }
 {
-    let mut rest = blocks;
-    while let [first, behind @ ..] = rest {
-        if first.is_named(name) {
-            return Some(first.copy());
+    for (i, block) in blocks.iter().enumerate() {
+        if block.is_named(name) {
+            return Some(i);
         }
-        rest = behind;
     }
     None
 }
@@ -167,7 +260,7 @@ fn place_next<'s, A: Allocator + Copy>(
     ensures placed { ArePlaced names.new blocks.now }
     ensures next { OnOk result (place_in blocks.now name.entry.now ≡ None → address_of names.new name.entry.now ≡ Some (length blocks.now)) }
 {
-    if number_of(names, blocks, name).is_some() {
+    if place_of(names, blocks, name).is_some() {
         return Ok(());
     }
     if is_placed(names, blocks.len(), name) {
