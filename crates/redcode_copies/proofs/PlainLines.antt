@@ -83,7 +83,7 @@ pub record AreApart (c : Counter) (P : List Piece → Type 0) : Type 0 where
 without-and : (c : Counter) → AreApart c (λ xs. has_and xs ≡ false)
 without-and c = record {
   behind = λ x xs none. (or_parts (has_text (codes "&") x) (has_and xs) none).1;
-  apart = λ next after xs none. rw ((or_parts (has_text (codes "&") next) (has_and (after ∷ xs)) none).0) refl
+  apart = λ next after xs none. rw ((or_parts (has_text (codes "&") next) (has_and (after ∷ xs)) none).0) refl;
 }
 
 pub and-false : (b t : Bool) → t ≡ false → (b && t) ≡ false

@@ -45,8 +45,8 @@ without-name : (c : Counter) → AreApart c (λ xs. has_number (c ∷ []) xs ≡
 without-name c = record {
   behind = λ x xs none. (or_parts _ (has_number (c ∷ []) xs) none).1;
   apart = λ next after xs none.
-    let rest = (or_parts _ (has_number (c ∷ []) (after ∷ xs)) none).1 in
-    and-false (has_text (codes "&") next) _ (no-counter (is_name after.kind) (bytes_eq after.text c.name) c.number (or_parts _ (has_number (c ∷ []) xs) rest).0)
+      let rest = (or_parts _ (has_number (c ∷ []) (after ∷ xs)) none).1 in
+      and-false (has_text (codes "&") next) _ (no-counter (is_name after.kind) (bytes_eq after.text c.name) c.number (or_parts _ (has_number (c ∷ []) xs) rest).0);
 }
 
 unnamed-copy : (c : Counter) (line : SourceLine) → has_number (c ∷ []) line.front ≡ false → has_number (c ∷ []) line.tokens ≡ false → in_copy c line ≡ line

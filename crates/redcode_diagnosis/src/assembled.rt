@@ -51,7 +51,7 @@ fn assemble_in<'s, A: Allocator + Copy>(
     }
 }
 
-/// The refusal of a source for this fault, of which this was written out.
+/// The refusal of a source for this fault, with its lines written out.
 fn first_told<'s, A: Allocator + Copy>(
     alloc: A,
     source: &'s [u8],

@@ -1,6 +1,6 @@
 -- The counters of open blocks, the outermost first: the index of the first block whose counter has a name.
-use Rattle.std.proofs.Common.{◌≡◌, ℕ, zero, suc, ◌<◌, ◌≤◌, ◌^◌, Bool, true, false, if◌then◌else◌, List, [], ◌∷◌, ◌++◌, length, get_or, Option, Some, None, refl, sym, ap, ◌∙◌, subst, inl}
-use Rattle.std.proofs.{Common.{inr, arith, ◌+◌, ◌-◌, ◌&&◌, ◌||◌, MatchOption, reverse, take, drop, eqb}, lemmas.Bool.{cases_Bool, eqb-true, or_parts}, lemmas.Slice.Eq.bytes_eq-Decides}
+use Rattle.std.proofs.Common.{◌≡◌, ℕ, zero, suc, ◌<◌, ◌≤◌, Bool, true, false, if◌then◌else◌, List, [], ◌∷◌, ◌++◌, length, get_or, Option, Some, None, refl, sym, ap, ◌∙◌, subst, inl}
+use Rattle.std.proofs.{Common.{inr, arith, ◌+◌, ◌-◌, ◌&&◌, MatchOption, reverse, take, drop}, lemmas.Bool.{cases_Bool, or_parts}, lemmas.Slice.Eq.bytes_eq-Decides}
 use Rattle.{std.specs.{Bool.⊤, Option.{is_some, option_map}, Str.bytes_eq}, indexmap.specs.IndexMap.insert_entry, std.proofs.{lemmas.Grind.common_steps, lemmas.List.{reverse-append, drop-drop, drop_more, take_more, map-append}}}
 use Rattle.{redcode_text.specs.{declared.token.Token.Token, Tokens.{piece_of, pieces}}, redcode_lines.specs.Line.is_name_token}
 use Rattle.{redcode_copies.proofs.WrittenLines.unnamed-copies, redcode_expand.specs.Rest.{OpenBlock, ArePlaced, counters_in, place_in, counters_of}}

@@ -106,7 +106,7 @@ impl<A: Allocator + Copy> Counters for OpenBlocks<'_, A> {
     }
 }
 
-/// A line within copies of these blocks, the outermost first. A copy of a block whose counter the line doesn't name changes nothing.
+/// A line within copies of these blocks, the outermost first. A block whose counter the line doesn't name changes nothing.
 fn in_blocks<'s, A: Allocator + Copy>(
     alloc: A,
     region: &'s Bump<A>,
@@ -149,7 +149,7 @@ fn unnamed<A: Allocator + Copy>(
     unnamed_by(names, blocks, from, front, line.tokens)
 }
 
-/// The number of blocks from this index on before the first whose counter one of the tokens is, or `most`, which is given, if it is less.
+/// The number of blocks from this index on before the first whose counter one of the tokens is; `most` if there are more.
 fn unnamed_by<A: Allocator + Copy>(
     names: &CounterNames<'_, A>,
     blocks: &[OpenBlock<'_>],

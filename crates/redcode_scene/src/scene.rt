@@ -55,7 +55,7 @@ impl<'s, A: Allocator + Copy> Scene<'s, A> {
         }
     }
 
-    /// What is known of a source of which this was written out, nothing if that was refused. It fails when memory runs out.
+    /// What is known of a source with its lines written out, or `None` if that was refused. It fails when memory runs out.
     pub fn of(
         alloc: A,
         source: &'s [u8],

@@ -1,4 +1,4 @@
-use Rattle.{std.proofs.Common.{◌≡◌, ◌≤◌, ◌∙◌, ℕ, drop, Option, MatchOption, subst, sym, arith}, std.specs.Bool.⊤, redcode_expand.proofs.PlacedNames.{unnamed-more, unnamed-other}}
+use Rattle.{std.proofs.Common.{◌≤◌, ◌∙◌, ℕ, drop, Option, MatchOption, subst, sym, arith}, std.specs.Bool.⊤, redcode_expand.proofs.PlacedNames.{unnamed-more, unnamed-other}}
 use Rattle.redcode_expand.proofs.open_blocks.unnamed_by.Goals.{then-is_name, else-is_name}
 use Rattle.redcode_expand.proofs.open_blocks.unnamed_by.Goals as goal
 
