@@ -14,7 +14,7 @@ use redcode_text::Token;
 use std::alloc::{AllocError, Allocator};
 use std::marker::Model;
 
-/// The most blocks that are compared one after another: a name's hash takes longer.
+/// The most blocks that are compared one after another, since a name's hash takes longer, or gone through without a look for the next.
 const FEW: usize = 8;
 
 /// The blocks whose copies are being written, the innermost first.
@@ -131,7 +131,8 @@ fn in_blocks<'s, A: Allocator + Copy>(
     Ok(copy)
 }
 
-/// The number of blocks from this index on before the first whose counter the line names.
+/// A number of blocks from this index on whose counters the line doesn't name: all before the first that it names, or none. Looking for
+/// them takes longer than the copy of a block, so it is not done for each.
 fn unnamed<A: Allocator + Copy>(
     names: &CounterNames<'_, A>,
     blocks: &[OpenBlock<'_>],
@@ -144,6 +145,9 @@ fn unnamed<A: Allocator + Copy>(
     ensures front { has_number (counters_in (take result (drop from blocks.now))) (line_read line.entry).front ≡ false }
     ensures tokens { has_number (counters_in (take result (drop from blocks.now))) (line_read line.entry).tokens ≡ false }
 {
+    if from % FEW != 0 {
+        return 0;
+    }
     let most = blocks.len() - from;
     let front = unnamed_by(names, blocks, from, most, line.front);
     unnamed_by(names, blocks, from, front, line.tokens)
