@@ -1,10 +1,8 @@
 pub mod Rows
 pub mod Divisors
-pub mod Pairs
 pub mod Turns
 pub mod Passes
 pub mod Windows
-pub mod Marks
 pub mod Loads
 pub mod Reaches
 pub mod Executions

@@ -1,14 +1,11 @@
 -- Of the code alone: what its own values are in the words of the definitions. No definition names a word of this file.
-use Rattle.std.specs.Prelude.{ℕ, ◌≤◌, List, [], ◌∷◌}
+use Rattle.std.specs.Prelude.{ℕ, ◌≤◌, List}
 use Rattle.{war_types.specs.{declared.instr.Mode.Mode, declared.instr.Instr.Instr}, mars_words.specs.Numbers.Field}
-use Rattle.mars_core.specs.{declared.effect.Queued.Queued, declared.round.Side.Side}
+use Rattle.mars_core.specs.declared.round.Side.{Side}
 use Rattle.mars_core.specs.Operand.{Reach, Pointers, Operand, operand}
-use Rattle.mars_core.specs.declared.operand.Operand as code_operand
+pub use Rattle.mars_operations.specs.Code.{operand_of, addresses}
 use Rattle.mars_core.specs.declared.limits.Pointers as code_pointers
 use Rattle.mars_core.specs.Whole as whole
-
-abbrev pub operand_of : code_operand.Operand → Operand
-operand_of o = record { pointer = o.pointer; target = o.target; register = o.register.instr }
 
 abbrev pub pointers_of : code_pointers.Pointers → Pointers
 pointers_of p = record { read = p.read; write = p.write }
@@ -34,12 +31,6 @@ whole_operands size core pc i =
     let a = whole.operand size core pc i.a_mode i.a in
     let b = whole.operand size a.core pc i.b_mode i.b in
     evaluated_both a.operand b.operand b.core
-
--- the addresses that it names one by one
-abbrev pub addresses : Queued → List ℕ
-addresses Queued.Nothing = []
-addresses (Queued.One a) = a ∷ []
-addresses (Queued.Two a b) = a ∷ b ∷ []
 
 abbrev pub other : Side → Side
 other Side.First = Side.Second

@@ -3,9 +3,9 @@ pub use Rattle.mars_words.specs.Numbers
 pub use Rattle.mars_words.specs.Pairs
 pub use Rattle.mars_words.specs.Equal
 -- Cells, the evaluation of an operand, what each operation does.
-pub mod Cells
-pub mod Operand
-pub mod Effect
+pub use Rattle.mars_operations.specs.Cells
+pub use Rattle.mars_operations.specs.Operand
+pub use Rattle.mars_operations.specs.Effect
 -- Turns and rounds, and the round in an arena.
 pub mod Round
 pub mod Arena
@@ -15,10 +15,9 @@ pub mod Touched
 pub mod Whole
 pub mod Passes
 pub mod Laws
--- Of the code alone, for private contracts: what its values mean, words, the cells that were written, the queues that
--- it keeps, and windows before them.
+-- Of the code alone, for private contracts: what its values mean, words, the queues that it keeps, and windows before
+-- them.
 pub mod Code
 pub use Rattle.mars_words.specs.Words
-pub mod Marks
-pub mod Queue
+pub use Rattle.mars_operations.specs.Queue
 pub mod Window

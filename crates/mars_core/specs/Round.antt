@@ -2,6 +2,7 @@
 use Rattle.std.specs.Prelude.{ℕ, ◌+◌, ◌-◌, ◌*◌, ◌<◌, ◌≤◌, zero, suc, Bool, true, false, ◌||◌, nat_le, if◌then◌else◌, List, [], ◌∷◌, ◌++◌, length, take, replicate, All}
 use Rattle.war_types.specs.{declared.instr.Instr.Instr, declared.settings.RawSettings.RawSettings, Settings.AreSettings, Warrior.{WarriorParts, Fits}}
 use Rattle.mars_core.specs.{declared.round.Side.Side, declared.round.Turned.Turned, declared.round.Outcome.Outcome, Cells.{IsCore, blank, cell}, Operand.{Reach, operand}, Effect.{Effect, effect}}
+pub use Rattle.mars_operations.specs.Queue.{is_empty}
 
 -- the process at pc: its instruction is copied, A is evaluated, then B on the core that A left, then the operation
 unfoldable pub executed : Reach → List Instr → ℕ → Effect
@@ -19,10 +20,6 @@ pub record Round : Type 0 where
   pub second : List ℕ
   pub to_move : Side
   pub used : ℕ
-
-abbrev pub is_empty : List ℕ → Bool
-is_empty [] = true
-is_empty (x ∷ xs) = false
 
 -- a queue is empty, or both sides have had their cycles
 abbrev pub is_over : Round → Bool

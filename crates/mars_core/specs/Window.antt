@@ -1,10 +1,6 @@
 -- Of the code alone: the processes of a side while many turns are made, those of next turns and the latest ones in an array beside its queue.
-use Rattle.std.specs.Prelude.{◌≡◌, ℕ, ◌+◌, ◌-◌, ◌<◌, ◌≤◌, min, Bool, true, false, List, ◌∷◌, ◌++◌, length, take, drop}
-use Rattle.mars_core.specs.{declared.window.Window.Window, Queue.{Processes, processes, behind_front}, Round.is_empty}
-
--- the first ones, from the head on to the end of the places, then those of the queue, then the last ones, from the beginning of the places on
-unfoldable pub waiting : ℕ → ℕ → List ℕ → List ℕ → List ℕ
-waiting head count places queue = take count (drop head places) ++ (queue ++ take (head + count - length places) places)
+use Rattle.std.specs.Prelude.{◌≡◌, ℕ, ◌+◌, ◌-◌, ◌<◌, ◌≤◌, min, Bool, true, false, List, ◌∷◌, length}
+use Rattle.mars_core.specs.{declared.window.Window.Window, Queue.{Processes, processes, waiting, behind_front}, Round.is_empty}
 
 -- the processes of a window before a queue, whose own front process has no meaning then
 abbrev pub held : Window → List ℕ → Processes → Processes

@@ -3,14 +3,13 @@
 ghost use Rattle.std.specs.Prelude.{◌≡◌, ◌+◌, ◌-◌, ◌*◌, ◌<◌, ◌≤◌, Bool, true, false, Option, Some, length, slice_get, All, IfOk, IfSome, MatchOption};
 ghost use Rattle.mars_core.specs.{Queue.front, Whole.whole, Round.{is_empty, is_over, queue_of, reach_of, after_turn, turned, after_turns, outcome, fresh, opening, IsRound, CanBegin}, Touched.AreSameBut};
 
-use crate::cells::Core;
 use crate::limits::{Limits, Whole, Within};
 use crate::load::load;
 use crate::pass::passes;
-use crate::queue::Queue;
 use crate::round::{Outcome, Side, Turned};
 use crate::touchable::touchable;
 use crate::turn::turns;
+use mars_operations::{Core, Queue};
 use mars_words::Size;
 use std::alloc::{AllocError, Allocator};
 use std::marker::Model;

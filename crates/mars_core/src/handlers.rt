@@ -4,10 +4,10 @@ ghost use Rattle.std.specs.Prelude.{◌≡◌, ◌/◌, ◌%◌, ◌<◌, ◌≤
 ghost use Rattle.{war_types.specs.Warrior.HasNumbersBelow, mars_core.specs.{Cells.IsCore, Operand.evaluated, Effect.{effect, queues}, Whole.operand}};
 ghost use Rattle.{mars_words.specs.Words.{kinds, handler_of, op_at, modifier_at, mode_at}, mars_core.specs.{Code.{addresses, operand_of}, Passes.{IsAt, IsExecuted, parts_of}}};
 
-use crate::cells::Core;
-use crate::effect::{Queued, effect, execute};
+use crate::execution::execute;
 use crate::limits::Whole;
-use crate::operand::{Operand, evaluate};
+use mars_operations::effect::{Queued, effect};
+use mars_operations::{Core, Operand, evaluate};
 use mars_words::{Field, Size, Word, mode_at, modifier_at, op_at};
 use std::alloc::Allocator;
 

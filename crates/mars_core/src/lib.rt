@@ -1,33 +1,28 @@
 //! The machine of Core War: a core, the processes of two warriors, turns and rounds.
 //!
-//! A round passes through the modules in this order. `arena` owns the core and both queues. It loads two warriors (`load`) into the
-//! `cells`, each a word of 64 bits, and makes turns: without limits by the loop in `pass`, which finds the code of an instruction's kind
-//! in `handlers`, else, and single ones, by the loop in `turn`. A turn takes a process from its `queue`, in `pass` from a `window` before
-//! it; `effect` executes its instruction. Operands are evaluated first: without limits by `operand`, else by `limits`. MOV is in
-//! `copying`, and what other operations read and make of numbers in `registers`; `round` has the types. `touchable` lists the cells that
-//! a turn may change. `laws` is a law of the definitions. Words, the pairs of a modifier, and sums and differences in a core are in the
-//! crate `mars_words`.
+//! A round passes through the modules in this order. `arena` owns the core and both queues. It loads two warriors
+//! (`load`) into the cells, and makes turns: without limits by the loop in `pass`, which finds the code of an
+//! instruction's kind in `handlers`, else, and single ones, by the loop in `turn`. A turn takes a process from its
+//! queue, in `pass` from a `window` before it; its instruction has its `execution`, by operands that `limits`
+//! evaluates, those without limits too. `round` has the types. `touchable` lists the cells that a turn may change.
+//! `laws` is a law of the definitions. Cells, queues, operands without limits and operations are in the crate
+//! `mars_operations`; words, the pairs of a modifier, and sums and differences in a core are in `mars_words`.
 //!
-//! The main clauses: `begin` makes the round `opening`, `turn` the round `after_turn`, and `play` plays on until the round is over, at most
-//! twice the cycles. Each says that the arena is a round again (`IsRound`): its core has the core's size, all numbers are below it, and
-//! each queue has at most the settings' processes.
+//! The main clauses: `begin` makes the round `opening`, `turn` the round `after_turn`, and `play` plays on until the
+//! round is over, at most twice the cycles. Each says that the arena is a round again (`IsRound`): its core has the
+//! core's size, all numbers are below it, and each queue has at most the settings' processes.
 //!
-//! The crate knows nothing of sources, matches or hills. Only `Arena::new` takes memory, and a turn divides by no core size: what is
-//! written out inline there is so for speed.
+//! The crate knows nothing of sources, matches or hills. Only `Arena::new` takes memory, and a turn divides by no core
+//! size: what is written out inline there is so for speed.
 #![tactic(auto)]
 
 mod arena;
-mod cells;
-mod copying;
-mod effect;
+mod execution;
 mod handlers;
 mod laws;
 mod limits;
 mod load;
-mod operand;
 mod pass;
-mod queue;
-mod registers;
 mod round;
 mod touchable;
 mod turn;

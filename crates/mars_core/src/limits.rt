@@ -2,10 +2,9 @@
 
 ghost use Rattle.std.specs.Prelude.{◌≡◌, ℕ, ◌+◌, ◌<◌, ◌≤◌};
 ghost use Rattle.{war_types.specs.Warrior.HasNumbersBelow, mars_core.specs.{Cells.IsCore, Operand.{Reach, pointed, led_on, found_from, evaluated, operand, indirect, predecremented, postincremented}}};
-ghost use Rattle.{mars_words.specs.Code.field_of, mars_core.specs.{Whole.whole, Code.{evaluated_both, operand_of, operands, pointers_of, IsReach}}};
+ghost use Rattle.{mars_words.specs.Code.field_of, mars_core.specs.{Whole.whole, Code.{evaluated_both, operand_of, operands, whole_operands, pointers_of, IsReach}}};
 
-use crate::cells::Core;
-use crate::operand::{Operand, whole_operands};
+use mars_operations::{Core, Operand, evaluate, plain};
 use mars_words::{Field, Size, Word};
 use std::alloc::Allocator;
 use std::marker::Model;
@@ -54,6 +53,35 @@ impl Limits for Whole {
         i: Word,
     ) -> (Operand, Operand) {
         whole_operands(core, size, pc, i)
+    }
+}
+
+/// Evaluates the operands of an instruction that stands at `pc`: A wholly before B.
+#[inline(always)]
+fn whole_operands<A: Allocator>(
+    core: &mut Core<A>,
+    size: Size,
+    pc: u32,
+    i: Word,
+) -> (Operand, Operand)
+    requires core { IsCore size core.old }
+    requires pc { pc < size }
+    requires numbers { HasNumbersBelow size i.instr }
+    ensures value { whole_operands size core.old pc i.instr ≡ evaluated_both (operand_of result.0) (operand_of result.1) core.new }
+    ensures core { IsCore size core.new }
+    ensures a { result.0.pointer < size }
+    ensures a_numbers { HasNumbersBelow size result.0.register.instr }
+    ensures b { result.1.target < size }
+    ensures b_numbers { HasNumbersBelow size result.1.register.instr }
+{
+    if i.is_plain() {
+        let a = plain(core, size, pc, i.a_mode(), i.number(Field::A));
+        let b = plain(core, size, pc, i.b_mode(), i.number(Field::B));
+        (a, b)
+    } else {
+        let a = evaluate(core, size, pc, i.a_mode(), i.number(Field::A));
+        let b = evaluate(core, size, pc, i.b_mode(), i.number(Field::B));
+        (a, b)
     }
 }
 

@@ -3,7 +3,7 @@
 ghost use Rattle.std.specs.Prelude.{◌≡◌, ◌+◌, ◌≤◌, ◌++◌, All, drop, length, take};
 ghost use Rattle.{war_types.specs.Warrior.HasNumbersBelow, mars_core.specs.{Cells.IsCore, Round.loaded}};
 
-use crate::cells::Core;
+use mars_operations::Core;
 use mars_words::{Size, Word};
 use std::alloc::Allocator;
 use war_types::Instr;

@@ -4,12 +4,11 @@ ghost use Rattle.std.specs.Prelude.{◌≡◌, ℕ, ◌+◌, ◌-◌, ◌*◌, �
 ghost use Rattle.{war_types.specs.declared.settings.RawSettings.RawSettings, mars_core.specs.{declared.round.Side.Side, Cells.IsCore, Whole.whole, Round.{after_turns, is_empty, reach_of, IsQueue}}};
 ghost use Rattle.mars_core.specs.{Arena.round_in, Passes.{IsTurnMade, round_at, round_after, turns_left}, Window.{held, left_by, IsWindow}};
 
-use crate::cells::Core;
-use crate::effect::Queued;
 use crate::handlers::dispatched;
-use crate::queue::Queue;
 use crate::round::Side;
-use crate::window::{PLACES, Window};
+use crate::window::Window;
+use mars_operations::effect::Queued;
+use mars_operations::{Core, PLACES, Queue};
 use mars_words::Size;
 use std::alloc::Allocator;
 

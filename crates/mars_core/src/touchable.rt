@@ -3,7 +3,7 @@
 ghost use Rattle.std.specs.Prelude.{◌≡◌, ◌<◌, ◌≤◌, All};
 ghost use Rattle.{mars_words.specs.{Numbers.{plus, folded}, Code.field_of}, mars_core.specs.{Cells.IsCore, Operand.Reach, Round.executed, Touched.AreSameBut, Code.led_by}};
 
-use crate::cells::Core;
+use mars_operations::Core;
 use mars_words::{Field, Size};
 use std::alloc::Allocator;
 use war_types::Mode;

@@ -3,11 +3,11 @@
 ghost use Rattle.std.specs.Prelude.{◌≡◌, ℕ, ◌+◌, ◌-◌, ◌*◌, ◌≤◌, false};
 ghost use Rattle.{war_types.specs.declared.settings.RawSettings.RawSettings, mars_core.specs.{Cells.IsCore, Round.{after_turns, is_empty, reach_of, turned, IsQueue}, Arena.round_in, Code.other}};
 
-use crate::cells::Core;
-use crate::effect::{Queued, execute};
+use crate::execution::execute;
 use crate::limits::Limits;
-use crate::queue::Queue;
 use crate::round::{Side, Turned};
+use mars_operations::effect::Queued;
+use mars_operations::{Core, Queue};
 use mars_words::Size;
 use std::alloc::Allocator;
 

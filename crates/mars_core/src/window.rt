@@ -3,13 +3,8 @@
 ghost use Rattle.std.specs.Prelude.{◌≡◌, ℕ, ◌+◌, ◌-◌, ◌<◌, ◌≤◌, min, true, false, List, [], ◌∷◌, length};
 ghost use Rattle.mars_core.specs.{Queue.{processes, queued, behind_front}, Round.is_empty, Window.{held, IsWindow}};
 
-use crate::queue::Queue;
+use mars_operations::{MIDDLE, PLACES, Queue};
 use std::alloc::Allocator;
-
-/// The number of places of a window.
-pub(crate) const PLACES: usize = 1024;
-/// The place of the first process that is fetched from a queue.
-pub(crate) const MIDDLE: usize = 512;
 
 /// The front process of a side while many turns are made, and how its `places`, an array, hold `count` others. The
 /// first of these stand from `head` on to the end of the places, the last ones from the beginning of the places on. All

@@ -1,4 +1,4 @@
-use Rattle.{std.proofs.Common.{◌≡◌, ℕ, ◌+◌, ◌-◌, true, false, Some, ap, sym, ◌∙◌, arith, ◌<◌, subst}, mars_core.specs.{declared.round.Side.Side, declared.effect.Queued.Queued}}
+use Rattle.{std.proofs.Common.{◌≡◌, ℕ, ◌+◌, ◌-◌, true, false, Some, ap, sym, ◌∙◌, arith, ◌<◌, subst}, mars_core.specs.declared.round.Side.Side, mars_operations.specs.declared.effect.Queued.Queued}
 use Rattle.mars_core.specs.{Queue.{front, queued}, Round.{Round, after_turns, turned, turned_by}, Arena.round_in, Code.{addresses, other}}
 use Rattle.mars_core.proofs.Turns.{Moved, queue_at, without_front, first_moves, second_moves, first_front, second_front, front_inside, queued_nothing, queues_kept, limits_kept, both_live}
 use Rattle.mars_core.proofs.Turns.{over-empty, turned-made, after_turns-made, after_turns-none, after_turns-over, same_round}

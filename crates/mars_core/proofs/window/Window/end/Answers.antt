@@ -1,5 +1,5 @@
 use Rattle.std.proofs.Common.{◌≤◌, ◌+◌, ◌-◌, ◌∷◌, length, arith, ap, ap₂, sym, ◌∙◌}
-use Rattle.mars_core.{specs.{Queue.{Processes, processes, behind_front}, Round.is_empty, Window.waiting}, proofs.Windows.{waiting-first, held-length, empty-list, filled-list, behind-length}}
+use Rattle.mars_core.{specs.{Queue.{Processes, processes, waiting, behind_front}, Round.is_empty}, proofs.Windows.{waiting-first, held-length, empty-list, filled-list, behind-length}}
 use Rattle.mars_core.proofs.window.Window.end.Goals as goal
 
 pub returns-then-self-eq0-clause-last : goal.returns-then-self-eq0-clause-last

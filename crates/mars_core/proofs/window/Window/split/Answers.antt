@@ -1,6 +1,6 @@
 use Rattle.std.proofs.lemmas.Grind.{common_steps}
 use Rattle.std.proofs.Common.{◌≡◌, ◌≤◌, ◌∷◌, ◌++◌, [], length, arith, ap, ap₂, sym, ◌∙◌, length-append, take_all, take_at}
-use Rattle.mars_core.{specs.{Queue.{processes, behind_front}, Window.waiting}, proofs.Windows.{second, take-front, held-length, behind-length, put-next}}
+use Rattle.mars_core.{specs.Queue.{processes, waiting, behind_front}, proofs.Windows.{second, take-front, held-length, behind-length, put-next}}
 use Rattle.mars_core.proofs.window.Window.split.Goals as goal
 
 pub returns-then-self-clause-value : goal.returns-then-self-clause-value

@@ -1,4 +1,0 @@
-use Rattle.mars_core.proofs.cells.Core.put_number.Goals as goal
-
-pub put-requires-clause-numbers : goal.put-requires-clause-numbers
-put-requires-clause-numbers g c = c.with_number.ensures.below c.args.size c.cell.ensures.numbers c.requires.number
