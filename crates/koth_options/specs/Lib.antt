@@ -3,3 +3,5 @@
 pub mod Options
 -- the commands
 pub mod Commands
+-- what the tables of commands and arguments stand for
+pub mod Arguments

@@ -1,24 +1,72 @@
 //! The files, options and flags of the commands, one by one.
 
-ghost use Rattle.std.specs.Prelude.{◌≡◌, codes, false, pos};
-ghost use Rattle.{clap.specs.Words.{new_rule, rule_of}, koth_options.specs.{Commands.{file_rule, flag_rule, page_rule, source_or_input_rule, sources_rule, texts_rule}, Options.{ranged_rule, required_rule, text_rule}}};
+ghost use Rattle.std.specs.Prelude.{codes, pos};
+ghost use Rattle.koth_options.specs.{Arguments.{rule_at, IsArg}, Commands.{file_rule, flag_rule, page_rule, source_or_input_rule, sources_rule, texts_rule}, Options.{lettered_rule, ranged_rule, required_rule, text_rule}};
 
-use crate::options::option;
 use clap::builder::ValueParser;
-use clap::{Arg, ArgAction, value_parser};
+use clap::{Arg, ArgAction};
 use std::alloc::Global;
 
-pub(crate) fn file<'a>(heap: Global, name: &'a str, help: &'a str) -> Arg<'a>
-    ensures rule { rule_of result ≡ file_rule name.entry.now }
-    ensures global { result.global ≡ false }
+/// The greatest number of 32 bits.
+const MOST: i64 = 4_294_967_295;
+
+/// A file, an option or a flag of a command: its name, what else words say of it, and its help.
+#[derive(Clone, Copy)]
+pub(crate) enum Argument {
+    /// A file that has to be named.
+    File(&'static str, &'static str),
+    /// A source that is the input if none is named.
+    SourceOrInput,
+    /// One source or more.
+    Sources(&'static str, &'static str),
+    /// An option with a text, which help calls so.
+    Text(&'static str, &'static str, &'static str),
+    /// An option with a text, which may be given more than once.
+    Texts(&'static str, &'static str, &'static str),
+    /// The option for the file of a page.
+    Page(&'static str),
+    /// The option for a port, which has to be given.
+    Port,
+    /// An option with a whole number of 32 bits.
+    Number(&'static str, &'static str),
+    /// One that a letter names too.
+    Lettered(&'static str, char, &'static str),
+    /// An option with a whole number from the least to the greatest.
+    Ranged(&'static str, i64, i64, &'static str),
+    /// A flag, which takes no value.
+    Flag(&'static str, &'static str),
+}
+
+impl Argument {
+    /// The argument, as `clap` reads it.
+    pub(crate) fn arg<'a>(&self, heap: Global) -> Arg<'a>
+        ensures { IsArg (rule_at self.now) result }
+    {
+        match *self {
+            Argument::File(name, help) => file(heap, name, help),
+            Argument::SourceOrInput => source_or_input(heap),
+            Argument::Sources(name, help) => sources(heap, name, help),
+            Argument::Text(name, value, help) => text(heap, name, value, help),
+            Argument::Texts(name, value, help) => texts(heap, name, value, help),
+            Argument::Page(help) => page_file(heap, help),
+            Argument::Port => port(heap),
+            Argument::Number(name, help) => ranged(heap, name, 0, MOST, help),
+            Argument::Lettered(name, letter, help) => lettered(heap, name, letter, help),
+            Argument::Ranged(name, least, most, help) => ranged(heap, name, least, most, help),
+            Argument::Flag(name, help) => flag(heap, name, help),
+        }
+    }
+}
+
+fn file<'a>(heap: Global, name: &'a str, help: &'a str) -> Arg<'a>
+    ensures { IsArg (file_rule name.entry.now) result }
 {
     Arg::new(heap, name).required(true).help(help)
 }
 
 /// A source that is the input if none is named.
-pub(crate) fn source_or_input<'a>(heap: Global) -> Arg<'a>
-    ensures rule { rule_of result ≡ source_or_input_rule }
-    ensures global { result.global ≡ false }
+fn source_or_input<'a>(heap: Global) -> Arg<'a>
+    ensures { IsArg source_or_input_rule result }
 {
     Arg::new(heap, "SOURCE")
         .default_value("-")
@@ -26,66 +74,58 @@ pub(crate) fn source_or_input<'a>(heap: Global) -> Arg<'a>
 }
 
 /// One source or more.
-pub(crate) fn sources<'a>(heap: Global, name: &'a str, help: &'a str) -> Arg<'a>
-    ensures rule { rule_of result ≡ sources_rule name.entry.now }
-    ensures global { result.global ≡ false }
+fn sources<'a>(heap: Global, name: &'a str, help: &'a str) -> Arg<'a>
+    ensures { IsArg (sources_rule name.entry.now) result }
 {
     file(heap, name, help).action(ArgAction::Append)
 }
 
 /// An option with a text.
-pub(crate) fn text<'a>(heap: Global, name: &'a str, value: &'a str, help: &'a str) -> Arg<'a>
-    ensures rule { rule_of result ≡ text_rule name.entry.now }
-    ensures global { result.global ≡ false }
+fn text<'a>(heap: Global, name: &'a str, value: &'a str, help: &'a str) -> Arg<'a>
+    ensures { IsArg (text_rule name.entry.now) result }
 {
     Arg::new(heap, name).long(name).value_name(value).help(help)
 }
 
 /// An option with a text, which may be given more than once.
-pub(crate) fn texts<'a>(heap: Global, name: &'a str, value: &'a str, help: &'a str) -> Arg<'a>
-    ensures rule { rule_of result ≡ texts_rule name.entry.now }
-    ensures global { result.global ≡ false }
+fn texts<'a>(heap: Global, name: &'a str, value: &'a str, help: &'a str) -> Arg<'a>
+    ensures { IsArg (texts_rule name.entry.now) result }
 {
     text(heap, name, value, help).action(ArgAction::Append)
 }
 
 /// The option for the file of a page.
-pub(crate) fn page_file<'a>(heap: Global, help: &'a str) -> Arg<'a>
-    ensures rule { rule_of result ≡ page_rule }
-    ensures global { result.global ≡ false }
+fn page_file<'a>(heap: Global, help: &'a str) -> Arg<'a>
+    ensures { IsArg page_rule result }
 {
     text(heap, "output", "FILE", help).short('o')
 }
 
-pub(crate) fn port<'a>(heap: Global) -> Arg<'a>
-    ensures rule { rule_of result ≡ required_rule (codes "port") 65535 }
-    ensures global { result.global ≡ false }
+fn port<'a>(heap: Global) -> Arg<'a>
+    ensures { IsArg (required_rule (codes "port") 65535) result }
 {
-    Arg::new(heap, "port")
-        .long("port")
-        .value_name("NUMBER")
-        .value_parser(value_parser!(u16))
-        .required(true)
-        .help("Port to listen at, 0 to 65535; at 0 the system chooses one")
+    let help = "Port to listen at, 0 to 65535; at 0 the system chooses one";
+    ranged(heap, "port", 0, 65535, help).required(true)
+}
+
+/// An option with a whole number of 32 bits, which a letter names too.
+fn lettered<'a>(heap: Global, name: &'a str, letter: char, help: &'a str) -> Arg<'a>
+    ensures { IsArg (lettered_rule name.entry.now letter) result }
+{
+    ranged(heap, name, 0, MOST, help).short(letter)
 }
 
 /// An option with a whole number from the least to the greatest.
-pub(crate) fn ranged<'a>(
-    heap: Global,
-    name: &'a str,
-    least: i64,
-    greatest: i64,
-    help: &'a str,
-) -> Arg<'a>
-    ensures rule { rule_of result ≡ ranged_rule name.entry.now least greatest }
-    ensures global { result.global ≡ false }
+fn ranged<'a>(heap: Global, name: &'a str, least: i64, greatest: i64, help: &'a str) -> Arg<'a>
+    ensures { IsArg (ranged_rule name.entry.now least greatest) result }
 {
-    option(heap, name, help).value_parser(ValueParser::signed(least, greatest))
+    let numbers = ValueParser::signed(least, greatest);
+    let arg = Arg::new(heap, name).long(name).value_name("NUMBER");
+    arg.value_parser(numbers).help(help)
 }
 
-pub(crate) fn flag<'a>(heap: Global, name: &'a str, help: &'a str) -> Arg<'a>
-    ensures rule { rule_of result ≡ flag_rule name.entry.now }
-    ensures global { result.global ≡ false }
+fn flag<'a>(heap: Global, name: &'a str, help: &'a str) -> Arg<'a>
+    ensures { IsArg (flag_rule name.entry.now) result }
 {
     Arg::new(heap, name)
         .long(name)

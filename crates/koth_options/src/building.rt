@@ -1,24 +1,85 @@
-//! What commands are built of: their arguments one by one, and the options that several take.
+//! What commands are built of: their rows, and their arguments one by one.
 
-ghost use Rattle.std.specs.Prelude.{◌≡◌, codes, false, IfOk};
-ghost use Rattle.clap.specs.Words.{App, Rule, new_app, rule_of, with_rule, with_subcommand};
-ghost use Rattle.koth_options.specs.Commands.{with_format, with_name, with_view, IsReadAs};
+ghost use Rattle.std.specs.Prelude.{fold, IfOk};
+ghost use Rattle.clap.specs.Words.{App, new_app, with_subcommand};
+ghost use Rattle.koth_options.specs.{Arguments.{app_at, with_argument, with_row}, Commands.IsReadAs};
 
-use crate::arguments::{flag, text};
-use clap::{Arg, Command};
+use crate::arguments::Argument;
+use crate::options::{with_like, with_settings};
+use clap::Command;
 use std::alloc::{AllocError, Global};
 
-/// The command with this one among its own, if both were made.
-pub(crate) fn with_command<'a>(
+/// A command of the program.
+pub(crate) struct Row {
+    pub(crate) name: &'static str,
+    pub(crate) about: &'static str,
+    pub(crate) arguments: &'static [Argument],
+    pub(crate) takes: Takes,
+}
+
+/// Which options for settings a command takes.
+#[derive(Clone, Copy)]
+pub(crate) enum Takes {
+    Nothing,
+    /// Those of `with_settings`.
+    Settings,
+    /// Those of `with_like`.
+    Like,
+}
+
+/// The command with those of these rows among its own, if it was made.
+pub(crate) fn with_rows<'a>(
+    heap: Global,
     command: Result<Command<'a>, AllocError>,
+    rows: &[Row],
+) -> Result<Command<'a>, AllocError>
+    ensures { (app : App) → IfOk command.entry (IsReadAs app) → IfOk result (IsReadAs (fold with_row app rows.now)) }
+{
+    let mut command = command;
+    for row in rows {
+        command = with_row(heap, command, row);
+    }
+    command
+}
+
+/// The command with that of a row among its own, if both were made.
+fn with_row<'a>(
+    heap: Global,
+    command: Result<Command<'a>, AllocError>,
+    row: &Row,
+) -> Result<Command<'a>, AllocError>
+    ensures { (app : App) → IfOk command.entry (IsReadAs app) → IfOk result (IsReadAs (with_row app row.now)) }
+{
+    match command {
+        Ok(command) => with_command(command, command_of(heap, row)),
+        Err(error) => Err(error),
+    }
+}
+
+/// The command with this one among its own, if that was made.
+fn with_command<'a>(
+    command: Command<'a>,
     made: Result<Command<'a>, AllocError>,
 ) -> Result<Command<'a>, AllocError>
-    ensures { (app sub : App) → IfOk command.entry (IsReadAs app) → IfOk made.entry (IsReadAs sub)
+    ensures { (app sub : App) → IsReadAs app command.entry → IfOk made.entry (IsReadAs sub)
         → IfOk result (IsReadAs (with_subcommand app sub.top)) }
 {
-    match (command, made) {
-        (Ok(command), Ok(made)) => command.subcommand(made),
-        _ => Err(AllocError),
+    match made {
+        Ok(made) => command.subcommand(made),
+        Err(error) => Err(error),
+    }
+}
+
+/// The command of a row.
+fn command_of<'a>(heap: Global, row: &Row) -> Result<Command<'a>, AllocError>
+    ensures { IfOk result (IsReadAs (app_at row.now)) }
+{
+    let command = Ok(described(heap, row.name, row.about));
+    let command = with_arguments(heap, command, row.arguments);
+    match row.takes {
+        Takes::Nothing => command,
+        Takes::Settings => with_settings(heap, command),
+        Takes::Like => with_like(heap, command),
     }
 }
 
@@ -29,50 +90,31 @@ pub(crate) fn described<'a>(heap: Global, name: &'a str, about: &'a str) -> Comm
     Command::new(heap, name).about(about)
 }
 
-/// The command with the option for what messages call the input.
-pub(crate) fn with_name<'a>(
+/// The command with these arguments more, if it was made.
+pub(crate) fn with_arguments<'a>(
     heap: Global,
     command: Result<Command<'a>, AllocError>,
+    arguments: &[Argument],
 ) -> Result<Command<'a>, AllocError>
-    ensures { (app : App) → IfOk command.entry (IsReadAs app) → IfOk result (IsReadAs (with_name app)) }
+    ensures { (app : App) → IfOk command.entry (IsReadAs app) → IfOk result (IsReadAs (fold with_argument app arguments.now)) }
 {
-    let help = "What messages call standard input, with - alone";
-    with_arg(command, text(heap, "name", "NAME", help))
-}
-
-/// The command with the option for the format of its output.
-pub(crate) fn with_format<'a>(
-    heap: Global,
-    command: Result<Command<'a>, AllocError>,
-) -> Result<Command<'a>, AllocError>
-    ensures { (app : App) → IfOk command.entry (IsReadAs app) → IfOk result (IsReadAs (with_format app)) }
-{
-    let help = "Format of the output, text or json [default: text]";
-    with_arg(command, text(heap, "format", "FORM", help))
-}
-
-/// The command with the options that say how output is laid out.
-pub(crate) fn with_view<'a>(
-    heap: Global,
-    command: Result<Command<'a>, AllocError>,
-) -> Result<Command<'a>, AllocError>
-    ensures { (app : App) → IfOk command.entry (IsReadAs app) → IfOk result (IsReadAs (with_view app)) }
-{
-    let plain = flag(heap, "plain", "Write lines for programs; not with --table");
-    let table = flag(heap, "table", "Write a table for people; not with --plain");
-    with_format(heap, with_arg(with_arg(command, plain), table))
+    let mut command = command;
+    for argument in arguments {
+        command = with_argument(heap, command, argument);
+    }
+    command
 }
 
 /// The command with one argument more, if it was made.
-pub(crate) fn with_arg<'a>(
+fn with_argument<'a>(
+    heap: Global,
     command: Result<Command<'a>, AllocError>,
-    arg: Arg<'a>,
+    argument: &Argument,
 ) -> Result<Command<'a>, AllocError>
-    ensures { (app : App) (rule : Rule) → IfOk command.entry (IsReadAs app) → rule_of arg.entry ≡ rule → arg.entry.global ≡ false
-        → IfOk result (IsReadAs (with_rule app rule)) }
+    ensures { (app : App) → IfOk command.entry (IsReadAs app) → IfOk result (IsReadAs (with_argument app argument.now)) }
 {
     match command {
-        Ok(command) => command.arg(arg),
+        Ok(command) => command.arg(argument.arg(heap)),
         Err(error) => Err(error),
     }
 }

@@ -2,8 +2,8 @@
 //!
 //! What they give a command is the crate `koth_words`.
 //!
-//! - `options`: the options that give settings;
 //! - `arguments`: the files, options and flags of commands, one by one;
+//! - `options`: what several commands take, the options that give settings among it;
 //! - `building`: what commands are built of;
 //! - `commands`: the commands.
 #![tactic(auto)]

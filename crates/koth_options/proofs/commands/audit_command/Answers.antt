@@ -1,7 +1,0 @@
--- One argument after the other.
-use Rattle.koth_options.proofs.commands.audit_command.Goals as goal
-
-pub returns : goal.returns
-returns c =
-    let first = c.with_arg.ensures _ _ c.described-command.ensures c.file.ensures.rule c.file.ensures.global in
-    c.with_format.ensures _ first
