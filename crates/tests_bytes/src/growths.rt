@@ -1,6 +1,6 @@
 //! Headers and slots need no memory.
 
-use crate::expecting::{expect, expect_number};
+use crate::expecting::expect;
 use crate::settings::settings_from;
 use hill_bytes::{
     Header, OldSlot, Slot, Wins, decode_header, decode_old_header, encode_header, encode_old_header,
@@ -56,7 +56,7 @@ fn expect_bytes(rt: &impl Abort, memory: &Refusing<Global>, warrior: &Warrior<&R
     memory.refuse(0, u64::MAX);
     expect(rt, header_in_both(rt) == (0, 2), "headers");
     expect_slot(rt, warrior);
-    expect_number(rt, memory.refused(), 0, "growths refused");
+    expect(rt, memory.refused() == 0, "growths refused");
     memory.refuse(0, 0);
 }
 

@@ -1,8 +1,7 @@
 //! The calls of devices, as the tests make them. These functions have no clauses, so the proof of a test carries none of a
 //! call's along. A call that is to be done and isn't ends the test at once, so a test has no way out of its middle.
 
-use sector_disk::{Device, Fault, MemoryDevice};
-use std::alloc::{Allocator, Global};
+use sector_disk::{Device, Fault};
 use std::fmt::{Debug, Display};
 use std::process::Abort;
 
@@ -14,11 +13,6 @@ pub(crate) fn expect_same<T: PartialEq + Debug>(
     note: impl Display + Drop,
 ) {
     assert_eq!(rt; *found, *due, "{note}");
-}
-
-/// A new device in memory.
-pub(crate) fn in_memory(rt: &(impl Abort + AllocGlobal), sectors: u32) -> MemoryDevice<Global> {
-    MemoryDevice::new(rt.alloc(), sectors).expect(rt, "there is memory")
 }
 
 /// The device has `count` sectors.
@@ -35,12 +29,6 @@ pub(crate) fn expect_faults<D: Device>(rt: &impl Abort, device: &D, count: u64) 
 pub(crate) fn write<D: Device>(rt: &impl Abort, device: &mut D, n: u32, byte: u8) {
     assert!(rt; n < device.sectors());
     expect_same(rt, &device.write(n, &[byte; 512]), &Ok(()), "a write");
-}
-
-/// Makes one byte all over a sector its stable content.
-pub(crate) fn set<A: Allocator>(rt: &impl Abort, device: &mut MemoryDevice<A>, n: u32, byte: u8) {
-    assert!(rt; n < device.sectors());
-    device.set(n, &[byte; 512]);
 }
 
 /// A sync that fails, and counts one more than `faults`.
@@ -78,27 +66,6 @@ fn expect_unread<D: Device>(rt: &impl Abort, device: &mut D, n: u32) {
     let answer = device.read(n, &mut [0; 512]);
     expect_same(rt, &answer, &Err(Fault), "a read");
     expect_faults(rt, device, 1);
-}
-
-/// What a stop with these numbers leaves of a device in memory.
-pub(crate) fn stopped<A: Allocator + Copy>(
-    rt: &impl Abort,
-    device: &MemoryDevice<A>,
-    choice: &[u32],
-) -> MemoryDevice<A> {
-    device.stopped(choice).expect(rt, "there is memory")
-}
-
-/// A sector reads as one byte all over in what a stop leaves of a device in memory.
-pub(crate) fn expect_stopped<A: Allocator + Copy>(
-    rt: &impl Abort,
-    device: &MemoryDevice<A>,
-    choice: &[u32],
-    n: u32,
-    byte: u8,
-) {
-    let mut left = stopped(rt, device, choice);
-    expect_read(rt, &mut left, n, byte);
 }
 
 /// The sectors of a device that was made. It is dropped.

@@ -1,45 +1,29 @@
-//! Tests of the public calls of `sector_disk` and `hill_file`.
+//! Tests of the devices of `sector_disk` and `hill_file` over files.
 //!
-//! No crate stands on this one, so those are proved once, without tests, and the tests are proved over them. A module a subject:
+//! No crate stands on this one, so those are proved once, without tests, and the tests are proved over them. A module a
+//! subject:
 //!
-//! - `devices`, `images` and `fuses`: the device in memory, each image that a stop leaves of it, and the device that fails;
-//! - `files` and `file_calls`: the device over a file, and the calls that reach the file, counted by the files in `watched`;
-//! - `hill_files`, `hill_syncs` and `hill_calls`: of the device over a hill's file its lock and what becomes of a file that is there, the
-//!   syncs that are refused, and the calls that reach the file;
-//! - `careful`: the device that looks at the headers, over a file that another program writes at each moment;
-//! - `growths`: each growth of memory refused in turn.
+//! - `files`: the device over a file;
+//! - `hill_files`: of the device over a hill's file its lock, and what becomes of a file that is there;
+//! - `hill_syncs`: its syncs that are refused.
 //!
-//! `calls` has the calls of a device as the tests make them, and `disk` what they do to files. `places` goes through tables of both, and
-//! `deeds` has those of a hill's file. What they expect was counted by hand. A test here must not show what a contract could say instead.
+//! `calls` has the calls of a device as the tests make them, and `disk` what they do to files. `places` goes through
+//! tables of both, and `deeds` has those of a hill's file. What they expect was counted by hand. A test here must not
+//! show what a contract could say instead. `tests_base` tries the device in memory, and `tests_calls` which calls reach
+//! a file.
 #![tactic(auto)]
 
 #[cfg(test)]
 mod calls;
 #[cfg(test)]
-mod careful;
-#[cfg(test)]
 mod deeds;
-#[cfg(test)]
-mod devices;
 #[cfg(test)]
 mod disk;
 #[cfg(test)]
-mod file_calls;
-#[cfg(test)]
 mod files;
-#[cfg(test)]
-mod fuses;
-#[cfg(test)]
-mod growths;
-#[cfg(test)]
-mod hill_calls;
 #[cfg(test)]
 mod hill_files;
 #[cfg(test)]
 mod hill_syncs;
 #[cfg(test)]
-mod images;
-#[cfg(test)]
 mod places;
-#[cfg(test)]
-mod watched;

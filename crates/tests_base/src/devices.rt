@@ -1,8 +1,7 @@
 //! A device in memory, call by call.
 
-use crate::calls::{
-    Step, expect_faults, expect_stopped, expect_text, in_memory, set, take, take_all, write,
-};
+use crate::calls::{Step, expect_faults, expect_stopped, in_memory, set, take, take_all, write};
+use crate::expecting::expect_text;
 use sector_disk::{Fault, MemoryDevice, each_image_is_chosen, laws_of_images};
 use std::alloc::Global;
 use std::process::Abort;

@@ -1,6 +1,6 @@
 //! What the tests' allocator refuses, counts and gives back. Each test that refuses growths stands on it.
 
-use crate::expecting::{expect, expect_number};
+use crate::expecting::{expect, expect_same};
 use std::alloc::{AllocError, Allocator, Global};
 use std::process::Abort;
 use tests_fixtures::{MOST_RUNS, Refusing, refuse_each};
@@ -35,7 +35,7 @@ fn has_byte(memory: &Refusing<Global>, byte: u8) -> bool {
 
 /// `count` growths were refused.
 fn expect_refused(rt: &impl Abort, memory: &Refusing<Global>, count: u64) {
-    expect_number(rt, memory.refused(), count, "growths refused");
+    expect_same(rt, &memory.refused(), &count, "growths refused");
 }
 
 /// These words are those that are due.
@@ -49,7 +49,7 @@ fn is_refused(rt: &impl Abort, memory: &Refusing<Global>, k: u64) -> bool {
         Ok(words) => {
             expect_words(rt, words.as_slice(), &[1, 2, 3, 4, 5, 6, 7, 8, 9]);
             drop(words);
-            expect_number(rt, k, 3, "the last run");
+            expect_same(rt, &k, &3, "the last run");
             expect_refused(rt, memory, 0);
             false
         }
@@ -67,8 +67,8 @@ fn expect_each(rt: &impl Abort, memory: &Refusing<Global>) {
             met = met.saturating_add(1);
         }
     });
-    expect_number(rt, runs, 4, "runs");
-    expect_number(rt, met, 3, "refusals met");
+    expect_same(rt, &runs, &4, "runs");
+    expect_same(rt, &met, &3, "refusals met");
     expect(rt, has_nine(memory), "nine words");
 }
 
@@ -111,9 +111,9 @@ fn expect_one(rt: &impl Abort, memory: &Refusing<Global>, k: u64) {
 }
 
 fn expect_runs(rt: &impl Abort, memory: &Refusing<Global>) {
-    expect_number(rt, refuse_each(memory, |_k| {}), 1, "runs of no growth");
+    expect_same(rt, &refuse_each(memory, |_k| {}), &1, "runs of no growth");
     let most = refuse_each(memory, |k| expect_one(rt, memory, k));
-    expect_number(rt, most, MOST_RUNS, "runs");
+    expect_same(rt, &most, &MOST_RUNS, "runs");
     expect_refused(rt, memory, 0);
     expect(rt, has_byte(memory, 0u8), "a byte");
 }

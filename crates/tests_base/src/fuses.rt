@@ -1,6 +1,7 @@
 //! Each kind of fuse, at each number of calls, over a script of eight calls.
 
-use crate::calls::{expect_faults, expect_same, expect_sectors, in_memory, read, stopped};
+use crate::calls::{expect_faults, expect_sectors, in_memory, read, stopped};
+use crate::expecting::expect_same;
 use sector_disk::{Device, Fault, FuseDevice, FuseKind, MemoryDevice};
 use std::alloc::Global;
 use std::process::Abort;

@@ -1,8 +1,7 @@
 //! Each growth refused in turn.
 
-use crate::calls::{
-    Step, expect_faults, expect_read, expect_same, expect_stopped, set, take_all, write,
-};
+use crate::calls::{Step, expect_faults, expect_read, expect_stopped, set, take_all, write};
+use crate::expecting::expect_same;
 use sector_disk::{Device, FuseDevice, FuseKind, MemoryDevice};
 use std::alloc::{AllocError, Global};
 use std::process::Abort;

@@ -2,8 +2,8 @@
 
 ghost use Rattle.std.specs.Prelude.{⊤};
 
-use crate::calls::{expect_same, expect_sectors};
-use crate::file_calls::{NEVER, call, expect_calls, expect_done};
+use crate::expecting::{expect_calls, expect_same, expect_sectors};
+use crate::file_calls::{NEVER, call, expect_done};
 use crate::watched::{Calls, forget, note};
 use hill_file::{CarefulDevice, Headers, SectorFile};
 use sector_disk::{Device, Fault};

@@ -1,17 +1,9 @@
 //! How faults are named and written.
 
-use crate::expecting::expect_same;
+use crate::expecting::{expect_same, expect_text};
 use std::alloc::{AllocError, AllocFailed};
-use std::fmt::Display;
 use std::process::Abort;
 use war_types::{AsmFault, AsmKind, ExprFault, SettingsFault};
-
-/// A fault is written so.
-fn expect_text(rt: &(impl Abort + AllocGlobal), fault: &impl Display, text: &str) {
-    let written = fault.to_string(rt.alloc()).expect(rt, "there is memory");
-    expect_same(rt, written.as_str(), text);
-    drop(written);
-}
 
 /// Why a source is refused, by name.
 const KINDS: [(AsmKind, &str); 20] = [
@@ -38,7 +30,7 @@ const KINDS: [(AsmKind, &str); 20] = [
 ];
 
 fn expect_kind(rt: &(impl Abort + AllocGlobal), kind: AsmKind, name: &str) {
-    expect_same(rt, kind.name(), name);
+    expect_same(rt, &kind.name(), &name, "a name");
     expect_text(rt, &kind, name);
 }
 
@@ -58,7 +50,7 @@ const EXPRESSIONS: [(ExprFault, &str); 4] = [
 ];
 
 fn expect_expression(rt: &(impl Abort + AllocGlobal), fault: ExprFault, name: &str) {
-    expect_same(rt, fault.name(), name);
+    expect_same(rt, &fault.name(), &name, "a name");
     expect_text(rt, &fault, name);
 }
 

@@ -1,12 +1,8 @@
 //! Which calls the device over a hill's file makes on it, and that each of them that fails is told.
 
-use crate::calls::{expect_same, expect_sectors};
-use crate::disk::{expect_zeros, remove, set_length, write_file};
-use crate::file_calls::{
-    NEVER, expect_answer, expect_calls, expect_done, expect_refused, expect_script,
-};
-use crate::hill_files::{sectors_made, sectors_opened};
-use crate::places::{AtPath, at_place};
+use crate::expecting::{expect_calls, expect_same, expect_sectors, sectors_of};
+use crate::file_calls::{NEVER, expect_answer, expect_done, expect_refused, expect_script};
+use crate::places::{AtPath, at_place, expect_zeros, remove, set_length, write_file};
 use crate::watched::{Calls, WatchedFiles, forget};
 use hill_file::{Existing, HillFile, OpenFault, Sharing, TryLock};
 use sector_disk::{Device, Fault};
@@ -94,7 +90,7 @@ where
         }
         HillCall::Write(bytes) => write_file(rt, path, bytes),
         HillCall::Zeros(length) => expect_zeros(rt, path, length),
-        HillCall::Remove => remove(rt, path, ""),
+        HillCall::Remove => remove(rt, path),
     }
 }
 
@@ -113,7 +109,7 @@ where
     R::File: TryLock,
 {
     forget(calls, fails_at);
-    let found = sectors_made(files, rt.alloc(), path, 3, existing);
+    let found = sectors_of(HillFile::make(files, rt.alloc(), path, 3, existing));
     expect_same(rt, &found, &answer, format_args!("at {fails_at}"));
     expect_calls(rt, calls, letters);
 }
@@ -161,7 +157,7 @@ where
     for fails_at in 0..MADE.len() {
         stop_making(rt, files, calls, path, fails_at);
         if fails_at > 0 {
-            remove(rt, path, "");
+            remove(rt, path);
         }
     }
 }
@@ -200,7 +196,7 @@ fn expect_opened<R: Files>(
 where
     R::File: TryLock,
 {
-    assert!(rt; sectors_opened(files, path, sharing).is_ok());
+    assert!(rt; sectors_of(HillFile::open(files, path, sharing)).is_ok());
     expect_calls(rt, calls, Some(letters));
 }
 

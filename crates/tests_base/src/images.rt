@@ -1,6 +1,7 @@
 //! All images of a device of four sectors.
 
-use crate::calls::{Step, expect_same, in_memory, read, stopped, take_all, write};
+use crate::calls::{Step, in_memory, read, stopped, take_all, write};
+use crate::expecting::expect_same;
 use sector_disk::MemoryDevice;
 use std::alloc::Global;
 use std::process::Abort;

@@ -1,9 +1,7 @@
 //! Which calls a device over a file makes on it, and that each of them that fails is a fault.
 
-use crate::calls::{expect_faults, expect_same};
-use crate::disk::remove;
-use crate::files::sectors_made;
-use crate::places::{AtPath, at_place};
+use crate::expecting::{expect_calls, expect_faults, expect_same, sectors_of};
+use crate::places::{AtPath, at_place, remove};
 use crate::watched::{Calls, WatchedFiles, forget};
 use sector_disk::{Device, Fault, FileDevice, FileFault};
 use std::cell::Cell;
@@ -40,16 +38,9 @@ impl AtPath for FileCall {
             }
             FileCall::FailMaking => fail_making(rt, path),
             FileCall::Open => expect_each_call(rt, path),
-            FileCall::Remove => remove(rt, path, ""),
+            FileCall::Remove => remove(rt, path),
         }
     }
-}
-
-/// The calls since they were forgotten are these.
-pub(crate) fn expect_calls(rt: &impl Abort, calls: &Cell<Calls>, expected: Option<&[u8]>) {
-    let so_far = calls.get();
-    let letters = so_far.letters.get(..so_far.count);
-    expect_same(rt, &letters, &expected, "calls");
 }
 
 /// Making a device of three sectors ends so, after these calls, of which the one of this number fails.
@@ -65,7 +56,7 @@ fn expect_made(
         files: rt,
         calls: &calls,
     };
-    let made = sectors_made(&files, rt.alloc(), path, 3);
+    let made = sectors_of(FileDevice::make(&files, rt.alloc(), path, 3));
     expect_same(rt, &made, &answer, format_args!("at {fails_at}"));
     expect_calls(rt, &calls, letters);
 }
@@ -88,7 +79,7 @@ fn fail_making(rt: &(impl Files<File = File> + AllocGlobal + Abort), path: &str)
         let letters = MADE.get(..fails_at + 1);
         expect_made(rt, path, fails_at, Err(FileFault::Failed), letters);
         if fails_at > 0 {
-            remove(rt, path, "");
+            remove(rt, path);
         }
     }
 }

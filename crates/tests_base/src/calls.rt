@@ -1,0 +1,112 @@
+//! The calls of devices in memory, as the tests make them. These functions have no clauses, so the proof of a test carries none of a
+//! call's along. A call that is to be done and isn't ends the test at once, so a test has no way out of its middle.
+
+use crate::expecting::expect_same;
+use sector_disk::{Device, Fault, MemoryDevice};
+use std::alloc::{Allocator, Global};
+use std::process::Abort;
+
+/// A new device in memory.
+pub(crate) fn in_memory(rt: &(impl Abort + AllocGlobal), sectors: u32) -> MemoryDevice<Global> {
+    MemoryDevice::new(rt.alloc(), sectors).expect(rt, "there is memory")
+}
+
+/// The device has `count` sectors.
+pub(crate) fn expect_sectors<D: Device>(rt: &impl Abort, device: &D, count: u32) {
+    expect_same(rt, &device.sectors(), &count, "sectors");
+}
+
+/// The device has counted `count` faults.
+pub(crate) fn expect_faults<D: Device>(rt: &impl Abort, device: &D, count: u64) {
+    expect_same(rt, &device.faults(), &count, "faults");
+}
+
+/// Writes one byte all over a sector.
+pub(crate) fn write<D: Device>(rt: &impl Abort, device: &mut D, n: u32, byte: u8) {
+    assert!(rt; n < device.sectors());
+    expect_same(rt, &device.write(n, &[byte; 512]), &Ok(()), "a write");
+}
+
+/// Makes one byte all over a sector its stable content.
+pub(crate) fn set<A: Allocator>(rt: &impl Abort, device: &mut MemoryDevice<A>, n: u32, byte: u8) {
+    assert!(rt; n < device.sectors());
+    device.set(n, &[byte; 512]);
+}
+
+/// A sync that fails, and counts one more than `faults`.
+fn expect_refused<D: Device>(rt: &impl Abort, device: &mut D, faults: u64) {
+    expect_faults(rt, device, faults);
+    expect_same(rt, &device.sync(), &Err(Fault), "a sync");
+    expect_faults(rt, device, faults.saturating_add(1));
+}
+
+/// What a sector holds, which a test never fills with 255.
+pub(crate) fn read<D: Device>(rt: &impl Abort, device: &mut D, n: u32) -> [u8; 512] {
+    let mut content = [255; 512];
+    assert!(rt; n < device.sectors());
+    expect_same(rt, &device.read(n, &mut content), &Ok(()), "a read");
+    content
+}
+
+/// A sector reads as one byte all over.
+pub(crate) fn expect_read<D: Device>(rt: &impl Abort, device: &mut D, n: u32, byte: u8) {
+    let content = read(rt, device, n);
+    expect_same(rt, &content, &[byte; 512], format_args!("of sector {n}"));
+}
+
+/// What a stop with these numbers leaves of a device in memory.
+pub(crate) fn stopped<A: Allocator + Copy>(
+    rt: &impl Abort,
+    device: &MemoryDevice<A>,
+    choice: &[u32],
+) -> MemoryDevice<A> {
+    device.stopped(choice).expect(rt, "there is memory")
+}
+
+/// A sector reads as one byte all over in what a stop leaves of a device in memory.
+pub(crate) fn expect_stopped<A: Allocator + Copy>(
+    rt: &impl Abort,
+    device: &MemoryDevice<A>,
+    choice: &[u32],
+    n: u32,
+    byte: u8,
+) {
+    let mut left = stopped(rt, device, choice);
+    expect_read(rt, &mut left, n, byte);
+}
+
+/// A call of a device, and what has to come of it.
+#[derive(Clone, Copy)]
+pub(crate) enum Step {
+    /// The number of its sectors.
+    Sectors(u32),
+    /// The number of faults that it has counted.
+    Faults(u64),
+    /// A byte is written all over a sector.
+    Write(u32, u8),
+    /// A sector reads as one byte all over.
+    Read(u32, u8),
+    /// A sync is done.
+    Sync,
+    /// A sync that fails after this number of faults.
+    Refused(u64),
+}
+
+/// This call of a device comes out so.
+pub(crate) fn take<D: Device>(rt: &impl Abort, device: &mut D, step: Step) {
+    match step {
+        Step::Sectors(count) => expect_sectors(rt, device, count),
+        Step::Faults(count) => expect_faults(rt, device, count),
+        Step::Write(n, byte) => write(rt, device, n, byte),
+        Step::Read(n, byte) => expect_read(rt, device, n, byte),
+        Step::Sync => expect_same(rt, &device.sync(), &Ok(()), "a sync"),
+        Step::Refused(faults) => expect_refused(rt, device, faults),
+    }
+}
+
+/// These calls of a device come out so, one after another.
+pub(crate) fn take_all<D: Device>(rt: &impl Abort, device: &mut D, steps: &[Step]) {
+    for step in steps {
+        take(rt, device, *step);
+    }
+}
