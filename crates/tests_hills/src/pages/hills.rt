@@ -1,10 +1,9 @@
 //! Hills whose results were made up.
 
-ghost use Rattle.std.specs.Prelude.{◌≡◌, ◌+◌};
-ghost use Rattle.{war_types.specs.Warrior.Fits, koth_match.specs.Match.rounds_in};
+ghost use Rattle.war_types.specs.Warrior.{Fits};
 
+use crate::hill::bout;
 use koth_hill::Hill;
-use koth_match::Bout;
 use std::alloc::Global;
 use std::process::Abort;
 use tests_fixtures::{IMP, small, titled};
@@ -16,17 +15,6 @@ pub(crate) fn ten_rounds(rt: &impl Abort) -> Settings {
         rt,
         "they are settings",
     )
-}
-
-/// The rounds that the older won, those that the younger won, and ties.
-pub(crate) fn bout(older_wins: u16, younger_wins: u16, ties: u16) -> Bout
-    ensures { rounds_in result ≡ older_wins + younger_wins + ties }
-{
-    Bout {
-        older_wins,
-        younger_wins,
-        ties,
-    }
 }
 
 /// An imp of this name.

@@ -4,7 +4,8 @@ ghost use Rattle.std.specs.Prelude.{◌≡◌};
 ghost use Rattle.koth_match.specs.Match.{rounds_in};
 
 use crate::expecting::expect_same;
-use crate::hill::{bout, hill_put_back, put, small};
+use crate::hill::kept::{hill_put_back, put};
+use crate::hill::{bout, small};
 use Rounds::{Even, Lost, Tied, Won};
 use koth_hill::{Hill, Untrue};
 use koth_match::Bout;

@@ -30,7 +30,7 @@ fn check_growth<T: Debug + PartialEq>(
 }
 
 /// `count` growths were refused.
-fn expect_refused(rt: &impl Abort, memory: &Refusing<Global>, count: u64) {
+pub(crate) fn expect_refused(rt: &impl Abort, memory: &Refusing<Global>, count: u64) {
     expect_same(rt, &memory.refused(), &count, "growths refused");
 }
 

@@ -1,6 +1,7 @@
 //! Texts whose growths are refused in turn.
 
-use crate::expecting::{expect, expect_same};
+use crate::expecting::expect;
+use crate::growths::expect_refused;
 use std::alloc::{AllocError, Global};
 use std::process::Abort;
 use tests_fixtures::Refusing;
@@ -17,11 +18,6 @@ fn is_empty(text: Text<'_>) -> Option<bool> {
         }
         Err(AllocError) => None,
     }
-}
-
-/// `count` growths were refused.
-fn expect_refused(rt: &impl Abort, memory: &Refusing<Global>, count: u64) {
-    expect_same(rt, &memory.refused(), &count, "growths refused");
 }
 
 /// The text is there if no growth was refused, and is the error if one was.

@@ -1,8 +1,9 @@
 //! Texts for people.
 
 use crate::expecting::{expect, expect_same};
+use crate::hill::bout;
 use crate::pages::growths::check_growth;
-use crate::pages::hills::{bout, entrant, hill_of_one, hill_of_three, hill_of_two, ten_rounds};
+use crate::pages::hills::{entrant, hill_of_one, hill_of_three, hill_of_two, ten_rounds};
 use koth_hill::Hill;
 use koth_views::{Place, bout_view, fell_text, hill_view, matches_view, placed_text, roster};
 use std::alloc::Global;
