@@ -6,7 +6,7 @@ use redcode_expand::{Entry, Expanded, Line, LineKind, expand, predefined};
 use redcode_text::Token;
 use std::alloc::Allocator;
 use std::process::Abort;
-use tests_fixtures::USUAL;
+use tests_fixtures::{USUAL, rows};
 use war_types::{RawSettings, Settings};
 
 /// Settings of which no two numbers that a source may name are the same.
@@ -123,11 +123,6 @@ const LINES_WRITTEN_OUT: [Row; 7] = [
     (9, LineKind::End, 2, b"", b" END x"),
 ];
 
-#[test]
-fn lines_and_their_texts(rt: HostRuntime) {
-    check_source(&rt, LINES, &LINES_WRITTEN_OUT, &[]);
-}
-
 /// Names of `EQU` lines in lines of each kind.
 const NAMES: &[u8] = b";assert n\nDAT.n n+m\nx n EQU 1, m ; c\n+ n\nPIN n\nm EQU ?\nu EQU u\nEND n";
 
@@ -141,11 +136,6 @@ const NAMES_WRITTEN_OUT: [Row; 5] = [
 
 /// A label before an `EQU`, and its name.
 const NAMES_AS_LABELS: [Label; 2] = [(b"x", Some(1)), (b"n", None)];
-
-#[test]
-fn names_of_equ_lines(rt: HostRuntime) {
-    check_source(&rt, NAMES, &NAMES_WRITTEN_OUT, &NAMES_AS_LABELS);
-}
 
 /// Labels before an instruction, and on lines of their own.
 const LABELS: &[u8] = b"a DAT\nA b: & c DAT\nd\nPIN\nSTP\ne";
@@ -204,11 +194,6 @@ pub(crate) const COPIED_WRITTEN_OUT: [Row; 3] = [
 
 pub(crate) const COPIED_LABELS: [Label; 3] = [(b"a01", Some(0)), (b"a02", Some(1)), (b"a03", None)];
 
-#[test]
-fn blocks(rt: HostRuntime) {
-    check_source(&rt, COPIED, &COPIED_WRITTEN_OUT, &COPIED_LABELS);
-}
-
 /// A block within a block, each with the same counter, and one of no copy.
 const NESTED: &[u8] =
     b"i FOR 2\nx&i i FOR 1\na&i&i DAT.i i, j\nROF\nROF\nFOR 0\n?? 3 = junk\ny ROF\nEND\nROF";
@@ -228,7 +213,19 @@ const NESTED_LABELS: [Label; 5] = [
     (b"y", Some(2)),
 ];
 
+/// Sources, the lines that they are written out to, and labels of these.
+type Written = (&'static [u8], &'static [Row], &'static [Label]);
+
+const WRITTEN_OUT: [Written; 4] = rows! {
+    LINES => &LINES_WRITTEN_OUT, &[];
+    NAMES => &NAMES_WRITTEN_OUT, &NAMES_AS_LABELS;
+    COPIED => &COPIED_WRITTEN_OUT, &COPIED_LABELS;
+    NESTED => &NESTED_WRITTEN_OUT, &NESTED_LABELS;
+};
+
 #[test]
-fn copies_and_their_labels(rt: HostRuntime) {
-    check_source(&rt, NESTED, &NESTED_WRITTEN_OUT, &NESTED_LABELS);
+fn lines_and_labels(rt: HostRuntime) {
+    for (source, rows, labels) in &WRITTEN_OUT {
+        check_source(&rt, source, rows, labels);
+    }
 }

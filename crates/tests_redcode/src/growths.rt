@@ -77,13 +77,6 @@ fn has_code(
     Ok(is_due)
 }
 
-/// Whether this is the load text of an imp.
-fn is_imp(text: Vec<u8, &Refusing<Global>>) -> bool {
-    let is_imp = text.as_slice() == b"ORG 0\nMOV.I  $     0, $     1\nEND\n".as_slice();
-    drop(text);
-    is_imp
-}
-
 /// Whether the load text of an imp is right.
 fn is_printed(
     rt: &(impl Abort + AllocGlobal),
@@ -94,7 +87,11 @@ fn is_printed(
     let text = load_text(memory, &warrior, settings.core());
     drop(warrior);
     match text {
-        Ok(text) => Ok(is_imp(text)),
+        Ok(text) => {
+            let is_imp = text.as_slice() == b"ORG 0\nMOV.I  $     0, $     1\nEND\n".as_slice();
+            drop(text);
+            Ok(is_imp)
+        }
         Err(AllocError) => Err(AsmFault::MEMORY),
     }
 }
@@ -119,11 +116,6 @@ fn check_refusals(rt: &impl Abort, memory: &Refusing<Global>, count: u64) {
     expect_same(rt, &memory.refused(), &count, "growths refused");
 }
 
-/// A call gives its answer.
-fn check_again(rt: &(impl Abort + AllocGlobal), memory: &Refusing<Global>, call: Call, name: &str) {
-    expect_same(rt, &answer(rt, memory, call), &Ok(true), name);
-}
-
 /// A run that met a refusal lacks memory, and the same call made again gives its answer; else the run gave it.
 fn check_run(rt: &(impl Abort + AllocGlobal), memory: &Refusing<Global>, call: Call, name: &str) {
     match answer(rt, memory, call) {
@@ -134,7 +126,7 @@ fn check_run(rt: &(impl Abort + AllocGlobal), memory: &Refusing<Global>, call: C
         Err(fault) => {
             expect_same(rt, &fault, &AsmFault::MEMORY, name);
             check_refusals(rt, memory, 1);
-            check_again(rt, memory, call, name);
+            expect_same(rt, &answer(rt, memory, call), &Ok(true), name);
         }
     }
 }

@@ -29,13 +29,6 @@ fn check_counted(rt: &(impl Abort + AllocGlobal), counted: &Counted) {
     expect_same(rt, &found, &answer, format_args!("{count} lines"));
 }
 
-#[test]
-fn limits(rt: HostRuntime) {
-    for counted in &COUNTED {
-        check_counted(&rt, counted);
-    }
-}
-
 /// Warriors of as many instructions as settings allow, and of one more.
 const LONGEST: [Counted; 4] = [
     (1, "DAT 0\n", 1, Ok(1)),
@@ -46,7 +39,10 @@ const LONGEST: [Counted; 4] = [
 
 /// A warrior has at most as many instructions as the settings say, which is at most 200.
 #[test]
-fn the_longest_warriors(rt: HostRuntime) {
+fn limits(rt: HostRuntime) {
+    for counted in &COUNTED {
+        check_counted(&rt, counted);
+    }
     for counted in &LONGEST {
         check_counted(&rt, counted);
     }
@@ -60,16 +56,6 @@ fn the_longest_load_text(rt: HostRuntime) {
     check_answer(&rt, source.as_str(), due.as_str(), &with_length(&rt, 200));
     drop(due);
     drop(source);
-}
-
-/// A line that is one too many is refused for that before its label is.
-#[test]
-fn lines_before_names(rt: HostRuntime) {
-    let source = source_of(&rt, "x ", "DAT 0\n", 4096, "x DAT 0\n");
-    let found = assembled(&rt, source.as_bytes(), &defaults(&rt));
-    drop(source);
-    let due = Err((4097, AsmKind::ForLimit));
-    expect_same(&rt, &found, &due, "4097 lines");
 }
 
 /// A line, what follows it, and the answer if it is not too long.

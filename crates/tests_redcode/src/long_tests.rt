@@ -16,12 +16,14 @@ type Long = (
     Option<(u32, AsmKind)>,
 );
 
-/// Sources of the greatest length that meet millions of blocks without a copy, or repeat a line of 65,500 tokens.
-const REFUSED: [Long; 4] = rows! {
+/// Sources of the greatest length that meet millions of blocks without a copy, or repeat a line of 65,500 tokens. A line that is one too many
+/// is refused for that before its label is.
+const REFUSED: [Long; 5] = rows! {
     "FOR 400\n" => "FOR 0\nROF\n", 6550, "ROF\n", Some((0, AsmKind::Empty));
     "i FOR 400\n" => "FOR -i\nROF\n", 5900, "ROF\n", Some((0, AsmKind::Empty));
     "FOR 4096\nDAT " => "+", 65_500, "\nROF\n", Some((2, AsmKind::EquLimit));
     "FOR 100\n" => ":", 65_500, "\nROF\n", Some((2, AsmKind::BadOperation));
+    "x " => "DAT 0\n", 4096, "x DAT 0\n", Some((4097, AsmKind::ForLimit));
 };
 
 /// A source with such a part is refused so, or not.

@@ -32,12 +32,6 @@ fn check_text(rt: &(impl Abort + AllocGlobal), core: u16, start: u16, code: &[In
     drop(found);
 }
 
-#[test]
-fn an_imp(rt: HostRuntime) {
-    let want = "ORG 0\nMOV.I  $     0, $     1\nEND\n";
-    check_text(&rt, 8000, 0, &[IMP], want);
-}
-
 /// A number of an instruction in a core is printed as this field.
 fn check_folded(rt: &(impl Abort + AllocGlobal), core: u16, number: u16, field: &str) {
     let want = source_of(rt, "ORG 0\nDAT.F  $     0, $", field, 1, "\nEND\n");
@@ -109,5 +103,7 @@ END
 
 #[test]
 fn every_name_is_printed(rt: HostRuntime) {
+    let want = "ORG 0\nMOV.I  $     0, $     1\nEND\n";
+    check_text(&rt, 8000, 0, &[IMP], want);
     check_text(&rt, 100, 15, &NAMES, NAMES_PRINTED);
 }

@@ -36,11 +36,6 @@ const SMALLEST: [(&str, &str); 24] = [
     ("DAT\n;assert 0", "2 AssertFalse"),
 ];
 
-#[test]
-fn smallest_sources(rt: HostRuntime) {
-    check_rows(&rt, &SMALLEST);
-}
-
 /// Sources with a line that has a fault, and how they are refused.
 const FAULTS: [(&str, &str); 59] = [
     ("x DAT 0\nx DAT 1", "2 DuplicateName"),
@@ -107,11 +102,6 @@ const FAULTS: [(&str, &str); 59] = [
     ("FOR 5000\nFOR 0\nROF\nROF\nDAT 0", "1 ForLimit"),
 ];
 
-#[test]
-fn lines_with_a_fault(rt: HostRuntime) {
-    check_rows(&rt, &FAULTS);
-}
-
 /// Of several faults the one that is told.
 const ORDERED: [(&str, &str); 17] = [
     ("SPL\nDAT foo\nx\nx", "4 DuplicateName"),
@@ -135,7 +125,9 @@ const ORDERED: [(&str, &str); 17] = [
 ];
 
 #[test]
-fn order_of_faults(rt: HostRuntime) {
+fn sources_that_are_refused(rt: HostRuntime) {
+    check_rows(&rt, &SMALLEST);
+    check_rows(&rt, &FAULTS);
     check_rows(&rt, &ORDERED);
 }
 

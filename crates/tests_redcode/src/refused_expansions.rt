@@ -41,13 +41,6 @@ const REFUSALS: [(&[u8], u32, AsmKind); 12] = [
     (b";assert a\na EQU a\nx\nx", 4, AsmKind::DuplicateName),
 ];
 
-#[test]
-fn refusals(rt: HostRuntime) {
-    check_rows(&rt, &REFUSALS);
-    check_fault(&rt, b"END\nx EQU 1\nROF\nx\nx", None);
-    check_fault(&rt, b"FOR\nx\n;redcode\nx\n;redcode", None);
-}
-
 /// Blocks that are refused, with the line and the kind.
 const REFUSED_BLOCKS: [(&[u8], u32, AsmKind); 11] = rows! {
     b"FOR n\nDAT 0\nROF\nn EQU 2" => 1, AsmKind::ForCount(ExprFault::UnknownName);
@@ -63,9 +56,13 @@ const REFUSED_BLOCKS: [(&[u8], u32, AsmKind); 11] = rows! {
     b"i FOR 1\nx EQU DAT i\nROF" => 2, AsmKind::BadEqu;
 };
 
+/// What stands after the end or in a block without a copy is not refused.
 #[test]
-fn refusals_of_blocks(rt: HostRuntime) {
+fn refusals(rt: HostRuntime) {
+    check_rows(&rt, &REFUSALS);
     check_rows(&rt, &REFUSED_BLOCKS);
+    check_fault(&rt, b"END\nx EQU 1\nROF\nx\nx", None);
+    check_fault(&rt, b"FOR\nx\n;redcode\nx\n;redcode", None);
 }
 
 /// A head, a part, how often it follows the head, the tail, and the refusal if there is one.

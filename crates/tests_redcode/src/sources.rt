@@ -116,11 +116,6 @@ const SOURCES: [(&str, &str); 18] = rows! {
     "DAT 0\nNOP\nEND 1" => "ORG 1\nDAT.F  $     0, $     0\nNOP.F  $     0, $     0\nEND\n";
 };
 
-#[test]
-fn sources_and_load_text(rt: HostRuntime) {
-    check_rows(&rt, &SOURCES);
-}
-
 /// Sources with names and expressions, and their load text.
 const NAMED: [(&str, &str); 14] = rows! {
     DWARF
@@ -146,11 +141,6 @@ const NAMED: [(&str, &str); 14] = rows! {
     "DAT 0\na b EQU 5\nJMP a, b\nu EQU u\nv EQU ?" => "ORG 0\nDAT.F  $     0, $     0\nJMP.B  $     0, $     5\nEND\n";
 };
 
-#[test]
-fn names_and_expressions(rt: HostRuntime) {
-    check_rows(&rt, &NAMED);
-}
-
 /// Sources, and the name and the author of the warrior.
 const TITLES: [(&str, &str, &str); 5] = rows! {
     "DAT 0" => "Unnamed", "Anonymous";
@@ -162,18 +152,13 @@ const TITLES: [(&str, &str, &str); 5] = rows! {
         => "0123456789012345678901234567890123456789abcdefg ", "Anonymous";
 };
 
-/// Whether a source's warrior has this name and this author.
-fn has_titles(rt: &(impl Abort + AllocGlobal), source: &str, name: &str, author: &str) -> bool {
+/// A source whose warrior has this name and this author.
+fn check_titles(rt: &(impl Abort + AllocGlobal), source: &str, name: &str, author: &str) {
     let warrior = assemble(rt.alloc(), source.as_bytes(), &defaults(rt)).expect(rt, "it is one");
     let titles = (warrior.name().bytes(), warrior.author().bytes());
     let has_titles = titles == (name.as_bytes(), author.as_bytes());
     drop(warrior);
-    has_titles
-}
-
-/// A source whose warrior has this name and this author.
-fn check_titles(rt: &(impl Abort + AllocGlobal), source: &str, name: &str, author: &str) {
-    assert!(rt; has_titles(rt, source, name, author), "{source:?}");
+    assert!(rt; has_titles, "{source:?}");
 }
 
 #[test]
@@ -217,6 +202,8 @@ const BLOCKS: [(&str, &str); 6] = rows! {
 };
 
 #[test]
-fn blocks(rt: HostRuntime) {
+fn sources_and_load_text(rt: HostRuntime) {
+    check_rows(&rt, &SOURCES);
+    check_rows(&rt, &NAMED);
     check_rows(&rt, &BLOCKS);
 }

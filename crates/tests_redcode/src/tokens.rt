@@ -19,17 +19,12 @@ pub(crate) fn tokens_of<'l, A: Allocator + Copy>(
 
 pub(crate) type Row = (TokenKind, &'static [u8], u32);
 
-fn is_row(token: &Token<'_>, row: &Row) -> bool {
-    token.kind == row.0 && token.text == row.1 && token.at == row.2
-}
-
 /// Whether the tokens are these.
 pub(crate) fn gives(tokens: &[Token<'_>], rows: &[Row]) -> bool {
     tokens.len() == rows.len()
-        && tokens
-            .iter()
-            .zip(rows)
-            .all(|(token, row)| is_row(token, row))
+        && tokens.iter().zip(rows).all(|(token, row)| token.kind == row.0
+            && token.text == row.1
+            && token.at == row.2)
 }
 
 /// The tokens of `MOV.I #-1,>x2 ;c`.
@@ -51,12 +46,7 @@ fn check_tokens(rt: &(impl Abort + AllocGlobal), line: &[u8], rows: &[Row]) {
     let tokens = tokens_of(rt, rt.alloc(), line);
     let gives = gives(tokens.as_slice(), rows);
     drop(tokens);
-    assert!(rt; gives);
-}
-
-#[test]
-fn tokens_and_their_places(rt: HostRuntime) {
-    check_tokens(&rt, b"MOV.I #-1,>x2 ;c", &MOVED);
+    assert!(rt; gives, "{line:?}");
 }
 
 /// The tokens of `\t<==&&&|||=1_a\n`.
@@ -73,15 +63,19 @@ const LONGEST: [Row; 10] = [
     (TokenKind::Bad, b"\n", 14),
 ];
 
-#[test]
-fn longest_symbols_and_bad_bytes(rt: HostRuntime) {
-    check_tokens(&rt, b"\t<==&&&|||=1_a\n", &LONGEST);
-}
+/// Lines and their tokens: among them the longest symbols and bad bytes, and lines without tokens.
+const TOKENS: [(&[u8], &[Row]); 4] = [
+    (b"MOV.I #-1,>x2 ;c", &MOVED),
+    (b"\t<==&&&|||=1_a\n", &LONGEST),
+    (b"", &[]),
+    (b" \t\r ", &[]),
+];
 
 #[test]
-fn lines_without_tokens(rt: HostRuntime) {
-    check_tokens(&rt, b"", &[]);
-    check_tokens(&rt, b" \t\r ", &[]);
+fn tokens_and_their_places(rt: HostRuntime) {
+    for (line, rows) in &TOKENS {
+        check_tokens(&rt, line, rows);
+    }
 }
 
 /// Each name has one value, or none has any.

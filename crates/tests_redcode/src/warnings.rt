@@ -1,6 +1,6 @@
 //! What people are told of sources that may assemble: the place, the sentence and the text.
 
-use crate::expecting::expect_same;
+use crate::expecting::{append, expect_same};
 use redcode_diagnosis::warning_text_of;
 use redcode_warnings::{Warning, warnings};
 use std::alloc::Global;
@@ -61,13 +61,6 @@ fn warnings_of_sources(rt: HostRuntime) {
     for (source, want) in &WARNED {
         check_warning(&rt, source, want);
     }
-}
-
-/// Appends a text, which is dropped.
-fn append(rt: &impl Abort, all: &mut Vec<u8>, text: Vec<u8>) {
-    all.extend_from_slice(text.as_slice())
-        .expect(rt, "there is memory");
-    drop(text);
 }
 
 /// The text of a source's warnings.

@@ -1,17 +1,11 @@
 //! The text of refusals, and sources with several faults.
 
 use crate::diagnoses::refusals;
-use crate::expecting::expect_same;
+use crate::expecting::{append, expect_same};
+use crate::sources::source_of;
 use redcode_diagnosis::text_of;
 use std::process::Abort;
 use tests_fixtures::rows;
-
-/// Appends a text, which is dropped.
-fn append(rt: &impl Abort, all: &mut Vec<u8>, text: Vec<u8>) {
-    all.extend_from_slice(text.as_slice())
-        .expect(rt, "there is memory");
-    drop(text);
-}
 
 /// The refusals of a source as text.
 fn all_written(rt: &(impl Abort + AllocGlobal), source: &[u8]) -> Vec<u8> {
@@ -92,31 +86,22 @@ fn several_faults(rt: HostRuntime) {
     }
 }
 
-/// `count` times a line.
-fn repeated(rt: &(impl Abort + AllocGlobal), line: &str, count: usize) -> String {
-    line.repeat(rt.alloc(), count).expect(rt, "there is memory")
-}
-
 /// `count` times a line has refusals of this text.
 fn check_repeated(rt: &(impl Abort + AllocGlobal), line: &str, count: usize, want: &[u8]) {
-    let source = repeated(rt, line, count);
+    let source = source_of(rt, "", line, count, "");
     check_written(rt, source.as_bytes(), want);
-    drop(source);
-}
-
-/// `count` times a line has `due` refusals.
-fn check_count(rt: &(impl Abort + AllocGlobal), line: &str, count: usize, due: usize) {
-    let source = repeated(rt, line, count);
-    let all = refusals(rt, source.as_bytes());
-    expect_same(rt, &all.len(), &due, "refusals");
-    drop(all);
     drop(source);
 }
 
 /// No more than 100 refusals are told, and the numbers of a source or a warrior that is too long.
 #[test]
 fn long_sources(rt: HostRuntime) {
-    check_count(&rt, "DAT x\n", 150, 100);
+    let source = source_of(&rt, "", "DAT x\n", 150, "");
+    let all = refusals(&rt, source.as_bytes());
+    let count = all.len();
+    drop(all);
+    drop(source);
+    expect_same(&rt, &count, &100, "refusals");
     let want = b"a.red:1:1: TooLong: the warrior has 101 instructions, and may have 100\n";
     check_repeated(&rt, "DAT 0\n", 101, want);
     let want = b"a.red:1:1: SourceTooLong: the source has 65537 bytes, and may have 65536\n";
