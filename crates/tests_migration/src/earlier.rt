@@ -1,14 +1,13 @@
 //! The hill that an earlier version of the program wrote, moved to the new format.
 
 use crate::expecting::{expect_reply, expect_same, expect_sector, expect_table, expect_true};
-use crate::hills::{blank_of, moved, moved_from, opened_on, put_into};
-use crate::narrowed::narrowed;
+use crate::hills::{blank_of, put_into};
 use hill_store::{Refusal, Store};
 use sector_disk::{Device, MemoryDevice};
 use std::alloc::Global;
 use std::process::Abort;
 use tests_fixtures::earlier_hill::sector_of;
-use tests_stores::{Numbers, close, fell, unopened};
+use tests_stores::{Numbers, close, fell, moved, moved_from, narrowed, opened, unopened};
 
 fn earlier(rt: &(impl Abort + AllocGlobal)) -> MemoryDevice<Global> {
     let mut device = blank_of(rt, 10);
@@ -16,13 +15,6 @@ fn earlier(rt: &(impl Abort + AllocGlobal)) -> MemoryDevice<Global> {
         put_into(rt, &mut device, n, &sector_of(n));
     }
     device
-}
-
-/// The device has what that program wrote.
-fn expect_earlier(rt: &impl Abort, device: &mut MemoryDevice<Global>) {
-    for n in 0..10 {
-        expect_sector(rt, device, n, &sector_of(n));
-    }
 }
 
 /// No hill is opened on this device, since it holds none in the new format. It comes back.
@@ -35,8 +27,11 @@ fn expect_no_hill<D: Device + Drop>(rt: &(impl Abort + AllocGlobal), device: D) 
 /// The hill of a device that was moved from the one that the program wrote, to which nothing is written.
 fn moved_from_earlier(rt: &(impl Abort + AllocGlobal)) -> Store<MemoryDevice<Global>, Global> {
     let old = expect_no_hill(rt, earlier(rt));
-    let (mut old, store) = moved(rt, rt.alloc(), old, blank_of(rt, 18));
-    expect_earlier(rt, &mut old);
+    let moved = moved(rt.alloc(), old, blank_of(rt, 18));
+    let (mut old, store) = moved.expect(rt, "it is moved");
+    for n in 0..10 {
+        expect_sector(rt, &mut old, n, &sector_of(n));
+    }
     drop(old);
     store
 }
@@ -50,7 +45,7 @@ fn a_hill_from_before_limits(rt: HostRuntime) {
 /// The store has the hill, and so has its device. Then a warrior falls on it.
 fn expect_moved<D: Device + Drop>(rt: &(impl Abort + AllocGlobal), mut store: Store<D, Global>) {
     expect_the_hill(rt, &mut store);
-    let mut store = opened_on(rt, close(store));
+    let mut store = opened(rt.alloc(), close(store)).expect(rt, "it opens");
     expect_the_hill(rt, &mut store);
     expect_fall(rt, store);
 }
@@ -80,7 +75,8 @@ fn expect_the_hill<D: Device>(rt: &impl Abort, store: &mut Store<D, Global>) {
 /// The store that the hill is moved to answers as one that was opened.
 #[test]
 fn a_moved_hill_answers_at_once(rt: HostRuntime) {
-    let store = moved_from(&rt, rt.alloc(), earlier(&rt), blank_of(&rt, 18));
+    let moved = moved_from(rt.alloc(), earlier(&rt), blank_of(&rt, 18));
+    let store = moved.expect(&rt, "it is moved");
     expect_fall(&rt, store);
 }
 
@@ -99,9 +95,10 @@ fn standing_content_of(n: u32) -> [u8; 512] {
 /// In the old format the moved hill has the bytes that the program wrote.
 #[test]
 fn a_moved_hill_has_the_same_bytes(rt: HostRuntime) {
-    let store = moved_from(&rt, rt.alloc(), earlier(&rt), blank_of(&rt, 18));
+    let moved = moved_from(rt.alloc(), earlier(&rt), blank_of(&rt, 18));
+    let store = moved.expect(&rt, "it is moved");
     let mut new = close(store);
-    let mut again = narrowed(&rt, &mut new, 4);
+    let mut again = narrowed(rt.alloc(), &mut new, 4).expect(&rt, "it has room");
     drop(new);
     for n in 0..10 {
         expect_sector(&rt, &mut again, n, &standing_content_of(n));

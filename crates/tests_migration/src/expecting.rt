@@ -5,7 +5,7 @@ use sector_disk::{Device, MemoryDevice};
 use std::alloc::{Allocator, Global};
 use std::fmt::{Debug, Display};
 use std::process::Abort;
-use tests_stores::{Counting, Numbers, audit, calls_of, count_rows, holds, other_row, submit};
+use tests_stores::{Numbers, audit, count_rows, holds, other_row, submit};
 
 /// What was found is what is due. If it isn't, the note says what was looked at.
 pub(crate) fn expect_same<T: PartialEq + Debug>(
@@ -79,15 +79,6 @@ pub(crate) fn expect_true_rows<D: Device + Drop>(rt: &impl Abort, mut store: Sto
     expect_true(rt, &mut store);
     expect_two_rows(rt, &store);
     drop(store);
-}
-
-/// The device of this store was asked for `calls` calls.
-pub(crate) fn expect_calls<D: Device + Drop, A: Allocator + Copy>(
-    rt: &impl Abort,
-    store: Store<Counting<D>, A>,
-    calls: u32,
-) {
-    expect_same(rt, &calls_of(store), &calls, "calls");
 }
 
 /// The device has this in one of its sectors.

@@ -1,11 +1,11 @@
-//! Devices in memory, and hills on them and moved between them, as the tests make them. What is to be done and isn't ends the test at once.
+//! Devices in memory, and hills on them, as the tests make them. What is to be done and isn't ends the test at once.
 
 use crate::expecting::expect_same;
-use hill_store::{MigrateFault, MigrateSide, Refusal, Store};
+use hill_store::{MigrateFault, Refusal, Store};
 use sector_disk::{Device, MemoryDevice};
 use std::alloc::{Allocator, Global};
 use std::process::Abort;
-use tests_stores::{blank, close, created, migrate, open, opened, put, sector, settings_from};
+use tests_stores::{blank, created, open, put, refused, sector, settings_from};
 use war_types::RawSettings;
 
 /// A blank device of `sectors` sectors.
@@ -52,85 +52,13 @@ pub(crate) fn created_on<D: Device + Drop>(
     created(rt.alloc(), device, settings).expect(rt, "it is created")
 }
 
-/// The hill that a device holds.
-pub(crate) fn opened_on<D: Device + Drop>(
-    rt: &(impl Abort + AllocGlobal),
-    device: D,
-) -> Store<D, Global> {
-    opened(rt.alloc(), device).expect(rt, "it opens")
-}
-
-/// The hill of a device in the old format, moved to another one. Both devices come back.
-pub(crate) fn moved<O: Device + Drop, D: Device + Drop, A: Allocator + Copy>(
-    rt: &impl Abort,
-    alloc: A,
-    old: O,
-    new: D,
-) -> (O, Store<D, A>) {
-    match migrate(alloc, old, new) {
-        Ok(moved) => Some(moved),
-        Err((old, new, _)) => {
-            drop(old);
-            drop(new);
-            None
-        }
-    }
-    .expect(rt, "it is moved")
-}
-
-/// The same, without the old device.
-pub(crate) fn moved_from<O: Device + Drop, D: Device + Drop, A: Allocator + Copy>(
-    rt: &impl Abort,
-    alloc: A,
-    old: O,
-    new: D,
-) -> Store<D, A> {
-    let (old, store) = moved(rt, alloc, old, new);
-    drop(old);
-    store
-}
-
-/// Two devices between which no hill is moved, and why.
-pub(crate) fn not_moved<O: Device + Drop, D: Device + Drop>(
-    rt: &(impl Abort + AllocGlobal),
-    old: O,
-    new: D,
-) -> (O, D, MigrateFault) {
-    match migrate(rt.alloc(), old, new) {
-        Ok((old, store)) => {
-            drop(old);
-            drop(store);
-            None
-        }
-        Err(refused) => Some(refused),
-    }
-    .expect(rt, "it is refused")
-}
-
-/// What a move is answered whose new device fails.
-const NEW_FAILS: MigrateFault = MigrateFault {
-    side: MigrateSide::New,
-    refusal: Refusal::Disk,
-};
-
-/// Two devices, after a move from one to the other, which fails or does not.
-pub(crate) fn tried<O: Device + Drop, D: Device + Drop>(
-    rt: &(impl Abort + AllocGlobal),
-    old: O,
-    new: D,
-    fails: bool,
-) -> (O, D) {
-    let (old, new, fault) = match migrate(rt.alloc(), old, new) {
-        Ok((old, store)) => (old, close(store), None),
-        Err((old, new, fault)) => (old, new, Some(fault)),
-    };
-    expect_fault(rt, fault, fails);
-    (old, new)
-}
-
 /// The new device of a move failed, or nothing did.
-fn expect_fault(rt: &impl Abort, fault: Option<MigrateFault>, fails: bool) {
-    let due = if fails { Some(NEW_FAILS) } else { None };
+pub(crate) fn expect_fault(rt: &impl Abort, fault: Option<MigrateFault>, fails: bool) {
+    let due = if fails {
+        Some(refused!(New, Refusal::Disk))
+    } else {
+        None
+    };
     expect_same(rt, &fault, &due, "a fault");
 }
 

@@ -2,19 +2,18 @@
 //! growths of memory that are refused.
 
 use crate::expecting::{
-    expect_calls, expect_reply, expect_same, expect_sector, expect_the_rows, expect_true,
-    expect_two_rows,
+    expect_reply, expect_same, expect_sector, expect_the_rows, expect_true, expect_two_rows,
 };
-use crate::hills::{
-    blank_in, blank_of, content_of, created_on, image_of, moved, moved_from, opened_on, put_into,
-};
-use crate::narrowed::narrowed;
+use crate::hills::{blank_in, blank_of, content_of, created_on, image_of, put_into};
 use hill_store::Store;
 use sector_disk::{Device, MemoryDevice};
 use std::alloc::Global;
 use std::process::Abort;
 use tests_fixtures::small;
-use tests_stores::{Counting, SECTORS, SMALL, close, counted, fell, placed};
+use tests_stores::{
+    Counting, SECTORS, SMALL, calls_of, close, counted, fell, moved, moved_from, narrowed, opened,
+    placed,
+};
 use war_types::RawSettings;
 
 mod growths;
@@ -22,12 +21,7 @@ mod refused;
 
 /// A hill of two, on which a third warrior fell: headers of the generations 2 and 3, and two slots.
 fn written(rt: &(impl Abort + AllocGlobal)) -> MemoryDevice<Global> {
-    with_two(rt, blank_in(rt, rt.alloc()))
-}
-
-/// This device, once it holds that hill.
-fn with_two<D: Device + Drop>(rt: &(impl Abort + AllocGlobal), device: D) -> D {
-    let mut store = created_on(rt, device, SMALL);
+    let mut store = created_on(rt, blank_in(rt, rt.alloc()), SMALL);
     expect_reply(rt, &mut store, b"MOV 0,1", placed!(1, 1, 0));
     expect_reply(rt, &mut store, b"JMP 0", placed!(2, 2, 2));
     expect_reply(rt, &mut store, b"DAT 0,0", fell!(3, 0));
@@ -37,7 +31,7 @@ fn with_two<D: Device + Drop>(rt: &(impl Abort + AllocGlobal), device: D) -> D {
 /// A device in the old format with the hill of two, on which a third warrior fell.
 pub(crate) fn old_device(rt: &(impl Abort + AllocGlobal)) -> MemoryDevice<Global> {
     let mut new = written(rt);
-    let old = narrowed(rt, &mut new, 3);
+    let old = narrowed(rt.alloc(), &mut new, 3).expect(rt, "it has room");
     drop(new);
     old
 }
@@ -49,7 +43,7 @@ fn expect_same_from(
     other: &mut MemoryDevice<Global>,
     from: u32,
 ) {
-    expect_sectors(rt, other, device.sectors());
+    expect_same(rt, &other.sectors(), &device.sectors(), "sectors");
     for n in from..device.sectors() {
         expect_sector(rt, other, n, &content_of(rt, device, n));
     }
@@ -86,7 +80,7 @@ fn expect_moved(
 
 /// The hill of two on this device, on which a fourth warrior falls.
 fn expect_goes_on<D: Device + Drop>(rt: &(impl Abort + AllocGlobal), device: D) {
-    let mut store = opened_on(rt, device);
+    let mut store = opened(rt.alloc(), device).expect(rt, "it opens");
     expect_two_rows(rt, &store);
     expect_reply(rt, &mut store, b"MOV 0,1", fell!(4, 4));
     drop(store);
@@ -101,7 +95,8 @@ fn closed<D: Device + Drop>(rt: &impl Abort, mut store: Store<D, Global>) -> D {
 
 /// A device to which the hill of two was moved. The old one is as it was before.
 fn moved_device(rt: &(impl Abort + AllocGlobal)) -> MemoryDevice<Global> {
-    let (old, store) = moved(rt, rt.alloc(), old_device(rt), blank_in(rt, rt.alloc()));
+    let moved = moved(rt.alloc(), old_device(rt), blank_in(rt, rt.alloc()));
+    let (old, store) = moved.expect(rt, "it is moved");
     expect_equal(rt, old, old_device(rt), 0);
     closed(rt, store)
 }
@@ -128,10 +123,11 @@ fn expect_calls_of<O: Device + Drop, D: Device + Drop>(
     old: O,
     new: D,
 ) {
-    let (old, mut store) = moved(rt, rt.alloc(), counted(old), counted(new));
+    let moved = moved(rt.alloc(), counted(old), counted(new));
+    let (old, mut store) = moved.expect(rt, "it is moved");
     expect_asked(rt, old, 7);
     expect_reply(rt, &mut store, b"MOV 0,1", fell!(4, 4));
-    expect_calls(rt, store, 14 + 2);
+    expect_same(rt, &calls_of(store), &(14 + 2), "calls");
 }
 
 /// This device was asked for `calls` calls. It is dropped.
@@ -158,27 +154,10 @@ fn written_to_the_end(rt: &(impl Abort + AllocGlobal)) -> MemoryDevice<Global> {
 #[test]
 fn a_warrior_that_fills_its_slot(rt: HostRuntime) {
     let mut written = written_to_the_end(&rt);
-    let old = narrowed(&rt, &mut written, 2);
-    expect_sectors(&rt, &old, 6);
-    let store = moved_from(&rt, rt.alloc(), old, blank_of(&rt, 10));
+    let old = narrowed(rt.alloc(), &mut written, 2).expect(&rt, "it has room");
+    expect_same(&rt, &old.sectors(), &6, "sectors");
+    let store = moved_from(rt.alloc(), old, blank_of(&rt, 10)).expect(&rt, "it is moved");
     expect_equal(&rt, close(store), written, 1);
-}
-
-/// This device has `sectors` sectors.
-fn expect_sectors(rt: &impl Abort, device: &MemoryDevice<Global>, sectors: u32) {
-    expect_same(rt, &device.sectors(), &sectors, "sectors");
-}
-
-/// Copies a sector of one device to the other, and does not sync it.
-fn write_copy(
-    rt: &impl Abort,
-    from: &mut MemoryDevice<Global>,
-    to: &mut MemoryDevice<Global>,
-    n: u32,
-) {
-    let content = content_of(rt, from, n);
-    assert!(rt; n < to.sectors(), "it has the sector");
-    to.write(n, &content).expect(rt, "there is memory");
 }
 
 /// The device in the old format, of which nothing is synced.
@@ -188,7 +167,9 @@ fn unsynced(
 ) -> MemoryDevice<Global> {
     let mut device = blank_of(rt, 8);
     for n in 0..8 {
-        write_copy(rt, whole, &mut device, n);
+        let content = content_of(rt, whole, n);
+        assert!(rt; n < device.sectors(), "it has the sector");
+        device.write(n, &content).expect(rt, "there is memory");
     }
     device
 }
@@ -198,7 +179,8 @@ fn left_of_moved(
     rt: &(impl Abort + AllocGlobal),
     old: MemoryDevice<Global>,
 ) -> MemoryDevice<Global> {
-    let (old, store) = moved(rt, rt.alloc(), old, blank_in(rt, rt.alloc()));
+    let moved = moved(rt.alloc(), old, blank_in(rt, rt.alloc()));
+    let (old, store) = moved.expect(rt, "it is moved");
     expect_the_rows(rt, store);
     let left = image_of(rt, &old, &[]);
     drop(old);
@@ -225,8 +207,9 @@ fn filled(rt: &(impl Abort + AllocGlobal), byte: u8) -> MemoryDevice<Global> {
 /// Sectors of a new device that hold no header may hold anything. A slot that no warrior has keeps it.
 #[test]
 fn a_new_device_need_not_be_blank(rt: HostRuntime) {
-    let store = moved_from(&rt, rt.alloc(), old_device(&rt), filled(&rt, 0xFF));
-    let mut device = closed(&rt, opened_on(&rt, close(store)));
+    let moved = moved_from(rt.alloc(), old_device(&rt), filled(&rt, 0xFF));
+    let device = close(moved.expect(&rt, "it is moved"));
+    let mut device = closed(&rt, opened(rt.alloc(), device).expect(&rt, "it opens"));
     expect_sector(&rt, &mut device, 10, &[0xFF; 512]);
     drop(device);
 }

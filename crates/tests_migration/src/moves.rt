@@ -1,13 +1,13 @@
 //! What a stop, or one fault, leaves of a hill of two that is moved to another device.
 
 use crate::expecting::{expect_same, expect_the_rows, expect_true_rows};
-use crate::hills::{blank_in, hill_on, image_of, moved, tried};
+use crate::hills::{blank_in, expect_fault, hill_on, image_of};
 use crate::migrations::old_device;
 use hill_store::Refusal;
 use sector_disk::{FuseDevice, FuseKind, MemoryDevice};
 use std::alloc::Global;
 use std::process::Abort;
-use tests_stores::migrate;
+use tests_stores::{migrate, moved, tried};
 
 /// Calls of the new device: a sync, two headers, four sectors for each of two slots, a sync, the header in sector 1, and a sync.
 const CALLS: u64 = 14;
@@ -28,7 +28,8 @@ fn fused(
     kind: FuseKind,
 ) -> (MemoryDevice<Global>, MemoryDevice<Global>) {
     let new = FuseDevice::new(blank_in(rt, rt.alloc()), calls, kind);
-    let (old, new) = tried(rt, old_device(rt), new, calls < CALLS);
+    let (old, new, fault) = tried(rt.alloc(), old_device(rt), new);
+    expect_fault(rt, fault, calls < CALLS);
     (old, new.into_inner())
 }
 
@@ -63,11 +64,12 @@ fn choice_of(kept: u32) -> [u32; 10] {
     choice
 }
 
-/// Every image of a device that stopped after `calls` calls holds what is due.
+/// Every image of a device that stopped after `calls` calls holds what is due: each second one has the header.
 fn expect_images(rt: &(impl Abort + AllocGlobal), device: &MemoryDevice<Global>, calls: u64) {
+    let (lost, kept) = due(calls);
     for image in 0..images_of(calls) {
         let found = holds_the_hill(rt, image_of(rt, device, &choice_of(image)));
-        let due = due_in(image, calls);
+        let due = if image % 2 == 0 { lost } else { kept };
         expect_same(
             rt,
             &found,
@@ -77,18 +79,13 @@ fn expect_images(rt: &(impl Abort + AllocGlobal), device: &MemoryDevice<Global>,
     }
 }
 
-/// Whether an image after `calls` calls holds the hill: each second one has the header.
-fn due_in(image: u32, calls: u64) -> bool {
-    let (lost, kept) = due(calls);
-    if image % 2 == 0 { lost } else { kept }
-}
-
 /// The old device still holds the hill, which can be moved to a blank one.
 fn expect_moves(
     rt: &(impl Abort + AllocGlobal),
     old: MemoryDevice<Global>,
 ) -> MemoryDevice<Global> {
-    let (old, store) = moved(rt, rt.alloc(), old, blank_in(rt, rt.alloc()));
+    let moved = moved(rt.alloc(), old, blank_in(rt, rt.alloc()));
+    let (old, store) = moved.expect(rt, "it is moved");
     expect_true_rows(rt, store);
     old
 }

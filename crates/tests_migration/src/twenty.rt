@@ -5,14 +5,13 @@
 //! some places of results hold what was written of those that fell.
 
 use crate::expecting::{expect_rows, expect_same, expect_sector, expect_true};
-use crate::hills::{blank_of, content_of, created_on, moved_from, opened_on};
-use crate::narrowed::narrowed;
+use crate::hills::{blank_of, content_of, created_on};
 use hill_store::{Reply, Store};
 use sector_disk::MemoryDevice;
 use std::alloc::Global;
 use std::process::Abort;
 use tests_fixtures::small;
-use tests_stores::{Numbers, back, close, front, row_at, submit};
+use tests_stores::{Numbers, back, close, front, moved_from, narrowed, opened, row_at, submit};
 use war_types::RawSettings;
 
 mod stops;
@@ -50,7 +49,7 @@ fn placed_as(reply: Reply) -> Option<u64> {
 /// The same in the old format.
 fn old_device(rt: &(impl Abort + AllocGlobal)) -> MemoryDevice<Global> {
     let mut new = written(rt);
-    let old = narrowed(rt, &mut new, 21);
+    let old = narrowed(rt.alloc(), &mut new, 21).expect(rt, "it has room");
     drop(new);
     old
 }
@@ -143,18 +142,15 @@ fn expect_headers(rt: &(impl Abort + AllocGlobal), new: &mut MemoryDevice<Global
     expect_sector(rt, new, 1, &[0; 512]);
 }
 
-fn expect_slots(rt: &impl Abort, new: &mut MemoryDevice<Global>) {
-    for slot in 0..21 {
-        expect_slot(rt, new, slot);
-    }
-}
-
 #[test]
 fn a_full_hill_is_moved(rt: HostRuntime) {
-    let mut store = moved_from(&rt, rt.alloc(), old_device(&rt), blank_of(&rt, SECTORS));
+    let moved = moved_from(rt.alloc(), old_device(&rt), blank_of(&rt, SECTORS));
+    let mut store = moved.expect(&rt, "it is moved");
     expect_the_hill(&rt, &mut store);
     let mut new = close(store);
     expect_headers(&rt, &mut new);
-    expect_slots(&rt, &mut new);
-    expect_in(&rt, opened_on(&rt, new));
+    for slot in 0..21 {
+        expect_slot(&rt, &mut new, slot);
+    }
+    expect_in(&rt, opened(rt.alloc(), new).expect(&rt, "it opens"));
 }

@@ -1,7 +1,7 @@
 //! Results that a device keeps, true and untrue.
 
 use crate::expecting::{
-    LOSERS, expect_answers, expect_reply, expect_rows, expect_same, expect_table, expect_true,
+    expect_answers, expect_reply, expect_rows, expect_same, expect_table, expect_true,
 };
 use crate::hills::{blank_in, created_on, opened_on};
 use hill_store::{Refusal, Store, Untrue};
@@ -9,7 +9,8 @@ use sector_disk::{Device, MemoryDevice};
 use std::alloc::Global;
 use std::process::Abort;
 use tests_stores::{
-    Numbers, audit, close, first_untrue, placed, refusal_to_open, row_at, set_byte, unopened,
+    LOSERS, Numbers, audit, close, first_untrue, placed, refusal_to_open, row_at, set_byte,
+    unopened,
 };
 
 /// This device, once it holds two warriors, each of which loses at once: of their two rounds each won one.

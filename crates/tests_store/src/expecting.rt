@@ -7,50 +7,8 @@ use std::alloc::{Allocator, Global};
 use std::fmt::{Debug, Display};
 use std::process::Abort;
 use tests_stores::{
-    Counting, Numbers, audit, calls_of, close, count_rows, fell, other_row, placed, submit,
-    submit_all,
+    Answered, Counting, Numbers, audit, calls_of, close, count_rows, other_row, submit, submit_all,
 };
-use war_types::{AsmFault, AsmKind};
-
-/// A source, and what it is answered.
-pub(crate) type Answered = (&'static [u8], Reply);
-
-/// The reply to the first warrior.
-pub(crate) const FIRST: Reply = placed!(1, 1, 0);
-
-/// The reply to a second one that has two ties with it.
-pub(crate) const SECOND: Reply = placed!(2, 2, 2);
-
-/// The reply to a third one that both of them win against.
-const THIRD: Reply = fell!(3, 0);
-
-/// The reply to a source without a line.
-pub(crate) const EMPTY: Reply = Reply::Refused(AsmFault {
-    line: 0,
-    kind: AsmKind::Empty,
-});
-
-/// Three warriors, of which the third falls.
-pub(crate) const THREE: [Answered; 3] = [
-    (b"MOV 0,1", FIRST),
-    (b"JMP 0", SECOND),
-    (b"DAT 0,0", THIRD),
-];
-
-/// The first of two warriors that lose at once.
-pub(crate) const LOSER: Answered = (b"DAT 0,0", FIRST);
-
-/// The other one: each of them wins a round.
-pub(crate) const OTHER_LOSER: Answered = (b"DAT 0,0", placed!(2, 2, 3));
-
-/// Two warriors that lose at once, and win a round each.
-pub(crate) const LOSERS: [Answered; 2] = [LOSER, OTHER_LOSER];
-
-/// The sources of a list, of which the third is refused and the fourth falls.
-pub(crate) const SOURCES: [&[u8]; 4] = [b"MOV 0,1", b"JMP 0", b"", b"DAT 0,0"];
-
-/// The replies to them.
-pub(crate) const REPLIES: [Reply; 4] = [FIRST, SECOND, EMPTY, THIRD];
 
 /// What was found is what is due. If it isn't, the note says what was looked at.
 pub(crate) fn expect_same<T: PartialEq + Debug>(

@@ -1,14 +1,12 @@
 //! The life of a device: a fault, a store that is opened again, and a stop.
 
-use crate::expecting::{
-    Answered, LOSER, OTHER_LOSER, answered_on, expect_reply, expect_same, expect_table,
-};
+use crate::expecting::{answered_on, expect_reply, expect_same, expect_table};
 use crate::hills::{blank_within, image_of, opened_on};
 use hill_store::Reply;
 use sector_disk::{Device, FuseDevice, FuseKind, MemoryDevice};
 use std::alloc::Global;
 use std::process::Abort;
-use tests_stores::{Numbers, close, sector};
+use tests_stores::{Answered, LOSER, Numbers, OTHER_LOSER, close, sector};
 
 /// Calls that open a hill of two: a sync, two headers, and four sectors of each slot.
 const OPENING: u64 = 11;

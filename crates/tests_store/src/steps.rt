@@ -3,7 +3,7 @@
 ghost use Rattle.std.specs.Prelude.{◌≡◌};
 ghost use Rattle.{koth_hill.specs.Kept.{verdict_kept}, hill_store.specs.Submission.{IsSubmitting}};
 
-use crate::expecting::{FIRST, SECOND, expect_calls, expect_reply, expect_same, expect_table};
+use crate::expecting::{expect_calls, expect_reply, expect_same, expect_table};
 use crate::hills::{blank_in, created_on};
 use hill_store::{Reply, Store, Submission};
 use koth_hill::Verdict;
@@ -11,7 +11,7 @@ use sector_disk::Device;
 use std::alloc::{Allocator, Global};
 use std::process::Abort;
 use tests_fixtures::Refusing;
-use tests_stores::{Numbers, counted};
+use tests_stores::{FIRST, Numbers, SECOND, counted};
 
 /// The table of a hill of one warrior.
 const ONE_ROW: [Numbers; 1] = [(1, 0, 0)];

@@ -1,15 +1,18 @@
 //! A store over a device in memory: what is answered, how many calls are made, and what opens again.
 
 use crate::expecting::{
-    Answered, FIRST, REPLIES, SOURCES, THREE, answered, answered_on, expect_answers, expect_calls,
-    expect_opened, expect_replies, expect_reply, expect_same, expect_table,
+    answered, answered_on, expect_answers, expect_calls, expect_opened, expect_replies,
+    expect_reply, expect_same, expect_table,
 };
 use crate::hills::{blank_in, blank_within, created_on, image_of, opened_on, small};
 use hill_store::{Refusal, Reply};
 use sector_disk::{Device, FuseKind, MemoryDevice};
 use std::alloc::Global;
 use std::process::Abort;
-use tests_stores::{Numbers, counted, fell, refusal_to_create, refusal_to_open};
+use tests_stores::{
+    Answered, FIRST, Numbers, REPLIES, SOURCES, THREE, counted, fell, refusal_to_create,
+    refusal_to_open,
+};
 
 mod headers;
 

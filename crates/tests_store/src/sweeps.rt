@@ -1,12 +1,14 @@
 //! A device that stops, or fails once, at each of its calls while a hill is created and four sources are submitted.
 
-use crate::expecting::{FIRST, SOURCES, expect_replies, expect_same};
+use crate::expecting::{expect_replies, expect_same};
 use crate::hills::{blank_within, created_on, image_of, opened_on, small};
 use hill_store::{Refusal, Reply, Store};
 use sector_disk::{Device, FuseKind, MemoryDevice};
 use std::alloc::Global;
 use std::process::Abort;
-use tests_stores::{SECTORS, close, create, fell, numbers_at, open, placed, submit, submit_all};
+use tests_stores::{
+    FIRST, SECTORS, SOURCES, close, create, fell, numbers_at, open, placed, submit, submit_all,
+};
 
 /// Numbers in a choice: one for each sector.
 const CHOICES: usize = SECTORS as usize;

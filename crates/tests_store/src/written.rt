@@ -1,10 +1,10 @@
 //! The bytes of a device on which a store wrote.
 
-use crate::expecting::{Answered, LOSER, OTHER_LOSER, THREE, answered};
+use crate::expecting::answered;
 use sector_disk::MemoryDevice;
 use std::alloc::Global;
 use std::process::Abort;
-use tests_stores::{back, front, holds, placed, with_zeros};
+use tests_stores::{Answered, LOSER, OTHER_LOSER, THREE, back, front, holds, placed, with_zeros};
 
 /// How the header of two warriors begins, of which the first is one older: all that is not zero, and the places between.
 const BEGINS: [u8; 84] = [

@@ -1,22 +1,21 @@
 //! Growths of memory of a move that are refused.
 
 use super::old_device;
-use super::refused::{new_side, old_side};
 use crate::expecting::{expect_same, expect_the_rows};
-use crate::hills::{blank_in, moved_from};
+use crate::hills::blank_in;
 use hill_store::{MigrateFault, Refusal};
 use sector_disk::Device;
 use std::alloc::Global;
 use std::process::Abort;
 use tests_fixtures::Refusing;
-use tests_stores::migrate;
+use tests_stores::{migrate, moved_from, refused};
 
 /// An arena takes four growths, the members one and the codes of two warriors two, to open the hill. The eight sectors of their slots and a
 /// header's take one each in the new device.
 fn fault_at(k: u64) -> Option<MigrateFault> {
     match k {
-        0..=6 => Some(old_side(Refusal::Memory)),
-        7..=15 => Some(new_side(Refusal::Disk)),
+        0..=6 => Some(refused!(Old, Refusal::Memory)),
+        7..=15 => Some(refused!(New, Refusal::Disk)),
         _ => None,
     }
 }
@@ -46,7 +45,8 @@ fn expect_growth<D: Device + Drop>(
         }
         Err((old, new, fault)) => {
             expect_fault(rt, memory, k, Some(fault));
-            expect_the_rows(rt, moved_from(rt, memory, old, new));
+            let moved = moved_from(memory, old, new);
+            expect_the_rows(rt, moved.expect(rt, "it is moved"));
         }
     }
 }

@@ -2,30 +2,15 @@
 
 use super::{expect_asked, expect_equal, old_device, written};
 use crate::expecting::{expect_same, expect_the_rows};
-use crate::hills::{
-    blank_in, blank_of, content_of, created_on, image_of, moved_from, not_moved, put_into,
-};
-use hill_store::{MigrateFault, MigrateSide, Refusal};
+use crate::hills::{blank_in, blank_of, content_of, created_on, image_of, put_into};
+use hill_store::Refusal;
 use sector_disk::{Device, FuseDevice, FuseKind, MemoryDevice};
 use std::alloc::Global;
 use std::process::Abort;
-use tests_stores::{SMALL, close, counted, refusal_to_create, set_byte, settings_from};
-
-/// What the new device is refused for.
-pub(crate) fn new_side(refusal: Refusal) -> MigrateFault {
-    MigrateFault {
-        side: MigrateSide::New,
-        refusal,
-    }
-}
-
-/// What the old device is refused for.
-pub(crate) fn old_side(refusal: Refusal) -> MigrateFault {
-    MigrateFault {
-        side: MigrateSide::Old,
-        refusal,
-    }
-}
+use tests_stores::{
+    SMALL, close, counted, moved_from, not_moved, refusal_to_create, refused, set_byte,
+    settings_from,
+};
 
 /// No hill is moved to this device. Both come back as they were.
 fn expect_new_refused(
@@ -34,15 +19,11 @@ fn expect_new_refused(
     refusal: Refusal,
 ) {
     let before = image_of(rt, &new, &[]);
-    let (old, new, fault) = not_moved(rt, old_device(rt), new);
-    expect_fault(rt, fault, new_side(refusal));
+    let refused = not_moved(rt.alloc(), old_device(rt), new);
+    let (old, new, fault) = refused.expect(rt, "it is refused");
+    expect_same(rt, &fault, &refused!(New, refusal), "a fault");
     expect_equal(rt, new, before, 0);
     expect_equal(rt, old, old_device(rt), 0);
-}
-
-/// This fault is that one.
-fn expect_fault(rt: &impl Abort, fault: MigrateFault, expected: MigrateFault) {
-    expect_same(rt, &fault, &expected, "a fault");
 }
 
 #[test]
@@ -89,9 +70,10 @@ fn an_old_hill_occupies_a_device(rt: HostRuntime) {
 
 /// No hill is moved from this device, and the other one is not asked for anything, too small as it is.
 fn expect_old_refused<O: Device + Drop>(rt: &(impl Abort + AllocGlobal), old: O, refusal: Refusal) {
-    let (old, new, fault) = not_moved(rt, old, counted(blank_of(rt, 1)));
+    let refused = not_moved(rt.alloc(), old, counted(blank_of(rt, 1)));
+    let (old, new, fault) = refused.expect(rt, "it is refused");
     drop(old);
-    expect_fault(rt, fault, old_side(refusal));
+    expect_same(rt, &fault, &refused!(Old, refusal), "a fault");
     expect_asked(rt, new, 0);
 }
 
@@ -133,14 +115,6 @@ fn an_old_device_that_fails(rt: HostRuntime) {
     for calls in 0..7 {
         expect_old_refused(&rt, fused(&rt, calls), Refusal::Disk);
     }
-    expect_moves(&rt, fused(&rt, 7), blank_in(&rt, rt.alloc()));
-}
-
-/// The hill of two is moved from one of these devices to the other.
-fn expect_moves<O: Device + Drop, D: Device + Drop>(
-    rt: &(impl Abort + AllocGlobal),
-    old: O,
-    new: D,
-) {
-    expect_the_rows(rt, moved_from(rt, rt.alloc(), old, new));
+    let moved = moved_from(rt.alloc(), fused(&rt, 7), blank_in(&rt, rt.alloc()));
+    expect_the_rows(&rt, moved.expect(&rt, "it is moved"));
 }

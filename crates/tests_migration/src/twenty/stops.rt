@@ -2,10 +2,11 @@
 
 use super::{SECTORS, expect_in, old_device};
 use crate::expecting::expect_same;
-use crate::hills::{blank_of, hill_on, image_of, moved, tried};
+use crate::hills::{blank_of, expect_fault, hill_on, image_of};
 use sector_disk::{FuseDevice, FuseKind, MemoryDevice};
 use std::alloc::Global;
 use std::process::Abort;
+use tests_stores::{moved, tried};
 
 /// Calls that move it: a sync, two headers, four sectors for each of twenty slots, a sync, a header and a sync.
 const CALLS: u64 = 86;
@@ -17,7 +18,8 @@ fn stopped_behind(
     calls: u64,
 ) -> (MemoryDevice<Global>, MemoryDevice<Global>) {
     let new = FuseDevice::new(blank_of(rt, SECTORS), calls, FuseKind::Stop);
-    let (old, new) = tried(rt, old, new, calls < CALLS);
+    let (old, new, fault) = tried(rt.alloc(), old, new);
+    expect_fault(rt, fault, calls < CALLS);
     (old, new.into_inner())
 }
 
@@ -108,7 +110,8 @@ fn expect_stop(
     let (old, new) = stopped_behind(rt, old, calls);
     expect_images(rt, &new, calls);
     drop(new);
-    let (old, store) = moved(rt, rt.alloc(), old, blank_of(rt, SECTORS));
+    let moved = moved(rt.alloc(), old, blank_of(rt, SECTORS));
+    let (old, store) = moved.expect(rt, "it is moved");
     expect_in(rt, store);
     old
 }

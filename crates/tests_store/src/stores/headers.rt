@@ -1,12 +1,12 @@
 //! Devices with a header that no store wrote.
 
-use crate::expecting::{EMPTY, expect_calls, expect_reply, expect_same};
+use crate::expecting::{expect_calls, expect_reply, expect_same};
 use crate::hills::{blank_in, opened_on};
 use hill_store::{Header, HeaderEntry, Refusal, Reply, encode_header};
 use sector_disk::{Device, FuseDevice, FuseKind, MemoryDevice};
 use std::alloc::Global;
 use std::process::Abort;
-use tests_stores::{SMALL, counted, put, refusal_to_open, settings_from};
+use tests_stores::{EMPTY, SMALL, counted, put, refusal_to_open, settings_from};
 
 /// Two warriors of a header.
 const ENTRIES: [HeaderEntry; 2] = [

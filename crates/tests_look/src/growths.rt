@@ -2,14 +2,14 @@
 //! that takes its memory from the same allocator, and `lists` growths of a list of submissions. `stinting` shows that there are none after the
 //! first call of the device.
 
-use crate::expecting::{FIRST, THREE, answered, expect_calls, expect_reply, expect_same};
+use crate::expecting::{answered, expect_calls, expect_reply, expect_same};
 use crate::hills::{blank_in, created_on, image_of, small};
 use hill_store::{Refusal, Reply, Store};
 use sector_disk::{Device, MemoryDevice};
 use std::alloc::Global;
 use std::process::Abort;
 use tests_fixtures::Refusing;
-use tests_stores::{Numbers, counted, refusal_to_create, refusal_to_open, row_at};
+use tests_stores::{FIRST, Numbers, THREE, counted, refusal_to_create, refusal_to_open, row_at};
 
 mod devices;
 mod lists;

@@ -1,16 +1,14 @@
 //! Growths of a list of submissions, to a store whose device takes its memory from the same allocator.
 
 use super::expect_refusals;
-use crate::expecting::{
-    EMPTY, FIRST, REPLIES, SECOND, SOURCES, expect_opened, expect_reply, expect_rows, expect_same,
-};
+use crate::expecting::{expect_opened, expect_reply, expect_rows, expect_same};
 use crate::hills::{blank_in, created_on};
 use hill_store::{Reply, Store};
 use sector_disk::Device;
 use std::alloc::Global;
 use std::process::Abort;
 use tests_fixtures::Refusing;
-use tests_stores::{close, placed, submit_all};
+use tests_stores::{EMPTY, FIRST, REPLIES, SECOND, SOURCES, close, placed, submit_all};
 
 /// The replies to the list are these.
 fn expect_list<D: Device>(

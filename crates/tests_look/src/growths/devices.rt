@@ -1,14 +1,14 @@
 //! Growths of a device that takes its memory from an allocator that refuses them.
 
 use super::expect_refusals;
-use crate::expecting::{FIRST, THREE, answered_on, expect_reply, expect_rows, expect_same};
+use crate::expecting::{answered_on, expect_reply, expect_rows, expect_same};
 use crate::hills::{blank_in, created_on, opened_on, small};
 use hill_store::{Refusal, Reply, Store};
 use sector_disk::Device;
 use std::alloc::Global;
 use std::process::Abort;
 use tests_fixtures::Refusing;
-use tests_stores::{Counting, close, counted, create};
+use tests_stores::{Counting, FIRST, THREE, close, counted, create};
 
 /// A device in memory takes a growth at the first write to a sector, as of the header of a hill that is created. A warrior is placed on
 /// the hill that is created there then.

@@ -1,48 +1,14 @@
 //! A device that lets a store take no memory after its first call.
 
 use super::expect_refusals;
-use crate::expecting::{THREE, expect_opened, expect_reply, expect_true};
+use crate::expecting::{expect_opened, expect_reply, expect_true};
 use crate::hills::{blank_in, created_on};
 use hill_store::{Reply, Store};
-use sector_disk::{Device, Fault};
+use sector_disk::Device;
 use std::alloc::Global;
 use std::process::Abort;
 use tests_fixtures::Refusing;
-use tests_stores::{close, fell};
-
-/// A device that refuses every further growth from its first call on.
-#[derive(Drop)]
-struct Stinting<'m, D> {
-    inner: D,
-    memory: &'m Refusing<Global>,
-}
-
-impl<D: Device> Device for Stinting<'_, D> {
-    ghost facts = { record { size = λ c. D.facts.size c.inner; lawful = λ c. D.facts.lawful c.inner; disk = λ c. D.facts.disk c.inner; faults = λ c. D.facts.faults c.inner } };
-
-    fn sectors(&self) -> u32 {
-        self.inner.sectors()
-    }
-
-    fn faults(&self) -> u64 {
-        self.inner.faults()
-    }
-
-    fn read(&mut self, n: u32, to: &mut [u8; 512]) -> Result<(), Fault> {
-        self.memory.refuse_rest();
-        self.inner.read(n, to)
-    }
-
-    fn write(&mut self, n: u32, from: &[u8; 512]) -> Result<(), Fault> {
-        self.memory.refuse_rest();
-        self.inner.write(n, from)
-    }
-
-    fn sync(&mut self) -> Result<(), Fault> {
-        self.memory.refuse_rest();
-        self.inner.sync()
-    }
-}
+use tests_stores::{Stinting, THREE, close, fell};
 
 /// Growths are refused now, and none was asked for since.
 fn expect_stinted(rt: &impl Abort, memory: &Refusing<Global>) {

@@ -1,0 +1,55 @@
+//! Sources that tests submit to a hill of two, and what it answers them.
+
+use hill_store::Reply;
+use war_types::{AsmFault, AsmKind};
+
+/// A source, and what it is answered.
+pub type Answered = (&'static [u8], Reply);
+
+/// The reply to the first warrior.
+pub const FIRST: Reply = Reply::Placed {
+    entry: 1,
+    rank: 1,
+    score: 0,
+};
+
+/// The reply to a second one that has two ties with it.
+pub const SECOND: Reply = Reply::Placed {
+    entry: 2,
+    rank: 2,
+    score: 2,
+};
+
+/// The reply to a third one that both of them win against.
+const THIRD: Reply = Reply::Fell { entry: 3, score: 0 };
+
+/// The reply to a source without a line.
+pub const EMPTY: Reply = Reply::Refused(AsmFault {
+    line: 0,
+    kind: AsmKind::Empty,
+});
+
+/// Three warriors, of which the third falls.
+pub const THREE: [Answered; 3] = [(b"MOV 0,1", FIRST), (b"JMP 0", SECOND), (b"DAT 0,0", THIRD)];
+
+/// The first of two warriors that lose at once.
+pub const LOSER: Answered = (b"DAT 0,0", FIRST);
+
+/// The other one: each of them wins a round.
+pub const OTHER_LOSER: Answered = (
+    b"DAT 0,0",
+    Reply::Placed {
+        entry: 2,
+        rank: 2,
+        score: 3,
+    },
+);
+
+/// Two warriors that lose at once, and win a round each.
+pub const LOSERS: [Answered; 2] = [LOSER, OTHER_LOSER];
+
+/// The sources of a list, of which the third is refused and the fourth falls.
+pub const SOURCES: [&[u8]; 4] = [b"MOV 0,1", b"JMP 0", b"", b"DAT 0,0"];
+
+/// The replies to them.
+pub const REPLIES: [Reply; 4] = [FIRST, SECOND, EMPTY, THIRD];

@@ -1,0 +1,84 @@
+//! Devices in the old format, made from those in the new one that hold the same.
+//!
+//! A slot of the old format has two sectors. The first holds instructions 0 to 63, as in the new one. The other holds instructions 64 to 99
+//! and, from 288 on, the fields that the last sector of the new one has.
+
+use crate::sectors::{put, sector};
+use hill_bytes::{decode_header, encode_old_header};
+use sector_disk::{Fault, MemoryDevice};
+use std::alloc::{AllocError, Global};
+
+/// The device in the old format that holds what this one does in its first `slots` slots, if that has room for it.
+pub fn narrowed(
+    alloc: Global,
+    new: &mut MemoryDevice<Global>,
+    slots: u8,
+) -> Option<MemoryDevice<Global>> {
+    match MemoryDevice::new(alloc, 2 + 2 * u32::from(slots)) {
+        Ok(mut old) => {
+            let is_narrowed = narrow(new, &mut old, slots).is_ok();
+            if is_narrowed {
+                return Some(old);
+            }
+            drop(old);
+            None
+        }
+        Err(AllocError) => None,
+    }
+}
+
+fn narrow(
+    new: &mut MemoryDevice<Global>,
+    old: &mut MemoryDevice<Global>,
+    slots: u8,
+) -> Result<(), Fault> {
+    narrow_header(new, old, 0)?;
+    narrow_header(new, old, 1)?;
+    for slot in 0..slots {
+        narrow_slot(new, old, slot)?;
+    }
+    Ok(())
+}
+
+/// The header in this sector, if there is one.
+fn narrow_header(
+    new: &mut MemoryDevice<Global>,
+    old: &mut MemoryDevice<Global>,
+    n: u32,
+) -> Result<(), Fault> {
+    match narrowed_header(&sector(new, n)?)? {
+        Some(content) => put(old, n, &content),
+        None => Ok(()),
+    }
+}
+
+/// A header in the old format, if this is one in the new one.
+fn narrowed_header(content: &[u8; 512]) -> Result<Option<[u8; 512]>, Fault> {
+    match decode_header(content) {
+        Some(header) => match encode_old_header(&header) {
+            Some(content) => Ok(Some(content)),
+            None => Err(Fault),
+        },
+        None => Ok(None),
+    }
+}
+
+fn narrow_slot(
+    new: &mut MemoryDevice<Global>,
+    old: &mut MemoryDevice<Global>,
+    slot: u8,
+) -> Result<(), Fault> {
+    let from = 2 + 4 * u32::from(slot);
+    let to = 2 + 2 * u32::from(slot);
+    put(old, to, &sector(new, from)?)?;
+    let code = sector(new, from + 1)?;
+    let fields = sector(new, from + 3)?;
+    put(old, to + 1, &joined(&code, &fields))
+}
+
+/// The code of one sector, and then the fields of another.
+fn joined(code: &[u8; 512], fields: &[u8; 512]) -> [u8; 512] {
+    let mut content = *code;
+    content[288..].copy_from_slice(&fields[288..]);
+    content
+}
