@@ -1,13 +1,11 @@
 //! Peers on a hill of two, on a device in memory.
 
-use crate::calls::{blank_in, empty_hill, empty_hill_on};
-use crate::compare::{expect, expect_bytes, expect_length, expect_number};
+use crate::calls::empty_hill;
+use crate::compare::{expect, expect_bytes, expect_length};
 use koth_session::{Judge, NotConnected, PeerEnd, Peers, Step};
-use sector_disk::{Device, FuseDevice, FuseKind};
+use sector_disk::Device;
 use std::alloc::{Allocator, Global};
 use std::process::Abort;
-use tests_fixtures::Refusing;
-use tests_stores::opened;
 
 /// Room for `most` peers.
 pub(crate) fn room_for<A: Allocator + Copy>(rt: &impl Abort, alloc: A, most: usize) -> Peers<A> {
@@ -220,7 +218,7 @@ fn unread(rt: HostRuntime) {
     follow(&rt, 2, Script::Unread);
 }
 
-fn connect_two(rt: &impl Abort, peers: &mut Peers<Global>) {
+pub(crate) fn connect_two(rt: &impl Abort, peers: &mut Peers<Global>) {
     connect(rt, peers, Ok(0));
     connect(rt, peers, Ok(1));
 }
@@ -295,106 +293,4 @@ fn ask<D: Device>(rt: &impl Abort, peers: &mut Peers<Global>, judge: &mut Judge<
     peers.leave(0, judge);
     serve(rt, peers, judge, Step::Nobody);
     expect(rt, !peers.is_due(0) & !peers.is_due(1), "no command is due");
-}
-
-/// The device fails at the header of a submission, after ten calls: five make the hill, and five write a slot and sync. Nothing is answered to
-/// its peer, and another one is served on the hill that is opened again.
-#[test]
-fn a_device_that_fails(rt: HostRuntime) {
-    serve_over_a_fault(&rt);
-}
-
-fn serve_over_a_fault(rt: &(impl Abort + AllocGlobal)) {
-    let mut peers = room_for(rt, rt.alloc(), 2);
-    connect_two(rt, &mut peers);
-    let device = FuseDevice::new(blank_in(rt, rt.alloc()), 10, FuseKind::FailKept);
-    serve_over(rt, &mut peers, device);
-    drop(peers);
-}
-
-/// Serves two peers on a hill on this device, which fails once.
-fn serve_over<D: Device + Drop>(
-    rt: &(impl Abort + AllocGlobal),
-    peers: &mut Peers<Global>,
-    device: D,
-) {
-    let mut judge = Judge::new(empty_hill_on(rt, rt.alloc(), device));
-    fail_the_first(rt, peers, &mut judge);
-    let mut judge = again(rt, judge);
-    serve_the_second(rt, peers, &mut judge);
-    drop(judge);
-}
-
-/// The hill of this device opened again.
-fn again<D: Device + Drop>(
-    rt: &(impl Abort + AllocGlobal),
-    judge: Judge<D, Global>,
-) -> Judge<D, Global> {
-    Judge::new(opened(rt.alloc(), judge.close()).expect(rt, "it opens"))
-}
-
-fn fail_the_first<D: Device>(
-    rt: &impl Abort,
-    peers: &mut Peers<Global>,
-    judge: &mut Judge<D, Global>,
-) {
-    come(rt, peers, 0, "SUBMIT\nMOV 0,1\n.\nSHOW\n");
-    serve(rt, peers, judge, Step::StoreFailed(0));
-    come(rt, peers, 1, "SHOW\n");
-    waits(rt, peers, 0, 0);
-    ended(rt, peers, 0, Some(PeerEnd::StoreFailed));
-    expect(rt, peers.is_finished(0), "it is finished");
-}
-
-fn serve_the_second<D: Device>(
-    rt: &impl Abort,
-    peers: &mut Peers<Global>,
-    judge: &mut Judge<D, Global>,
-) {
-    serve(rt, peers, judge, Step::Served(1));
-    send(rt, peers, 1, "1 1 0 0 Unnamed by Anonymous\n.\n");
-    serve(rt, peers, judge, Step::Nobody);
-}
-
-/// A peer takes four growths: for a line, a source, the bytes that wait and 96 bytes of answers. Then one is taken for the answer after
-/// 24 of four bytes each.
-#[test]
-fn growths(rt: HostRuntime) {
-    let memory = Refusing::new(rt.alloc());
-    serve_without_growths(&rt, &memory);
-    drop(memory);
-}
-
-fn serve_without_growths(rt: &(impl Abort + AllocGlobal), memory: &Refusing<Global>) {
-    let mut judge = Judge::new(empty_hill_on(rt, memory, blank_in(rt, rt.alloc())));
-    let mut peers = room_for(rt, memory, 1);
-    refuse_growths(rt, memory, &mut peers, &mut judge);
-    drop(peers);
-    drop(judge);
-}
-
-fn refuse_growths<'m, D: Device>(
-    rt: &impl Abort,
-    memory: &'m Refusing<Global>,
-    peers: &mut Peers<&'m Refusing<Global>>,
-    judge: &mut Judge<D, &'m Refusing<Global>>,
-) {
-    for passed in 0..4 {
-        memory.refuse(passed, 1);
-        connect(rt, peers, Err(NotConnected::Memory));
-        expect_number(rt, memory.refused(), 1, "refused");
-    }
-    memory.refuse(4, 1);
-    connect(rt, peers, Ok(0));
-    for _ in 0..24 {
-        come(rt, peers, 0, "\n");
-        serve(rt, peers, judge, Step::Served(0));
-    }
-    expect_number(rt, memory.refused(), 0, "refused");
-    ended(rt, peers, 0, None);
-    come(rt, peers, 0, "\n");
-    serve(rt, peers, judge, Step::Served(0));
-    expect_number(rt, memory.refused(), 1, "refused");
-    ended(rt, peers, 0, Some(PeerEnd::Memory));
-    waits(rt, peers, 0, 96);
 }
