@@ -5,7 +5,7 @@
 use crate::steps::{Step, play, small, steps};
 use koth_server::View;
 
-/// What is done in `a_hill_is_audited`.
+/// A hill is audited.
 const A_HILL_IS_AUDITED: [Step; 16] = steps! {
     Run(small!("koth create audited.hill"), "CREATED\n", "", 0);
     Put("audited.hill.red", "DAT 0,0\n");
@@ -25,12 +25,7 @@ const A_HILL_IS_AUDITED: [Step; 16] = steps! {
     Remove("audited.hill");
 };
 
-#[test]
-fn a_hill_is_audited(rt: HostRuntime) {
-    play(&rt, &A_HILL_IS_AUDITED);
-}
-
-/// What is done in `an_empty_hill_is_true`.
+/// An empty hill is true.
 const AN_EMPTY_HILL_IS_TRUE: [Step; 4] = steps! {
     Run("koth create empty.hill --seed 7", "CREATED\n", "", 0);
     Run("koth audit empty.hill", "true\n", "", 0);
@@ -38,12 +33,7 @@ const AN_EMPTY_HILL_IS_TRUE: [Step; 4] = steps! {
     Remove("empty.hill");
 };
 
-#[test]
-fn an_empty_hill_is_true(rt: HostRuntime) {
-    play(&rt, &AN_EMPTY_HILL_IS_TRUE);
-}
-
-/// What is done in `matches_are_shown`.
+/// Matches are shown: a line for each rank, what its warrior won against the others, with a column for each of these.
 const MATCHES_ARE_SHOWN: [Step; 11] = steps! {
     Run(small!("koth create matches.hill"), "CREATED\n", "", 0);
     Put("matches.hill.red", "DAT 0,0\n");
@@ -61,12 +51,6 @@ const MATCHES_ARE_SHOWN: [Step; 11] = steps! {
     Remove("matches.hill");
 };
 
-/// A line for each rank: what its warrior won against the others, with a column for each of these.
-#[test]
-fn matches_are_shown(rt: HostRuntime) {
-    play(&rt, &MATCHES_ARE_SHOWN);
-}
-
 /// The lines of a hill of two, and of the match of both: the younger one won a round, and with another result none.
 macro_rules! hill_lines {
     ($first:literal, $second:literal, $counts:literal) => {
@@ -79,7 +63,7 @@ macro_rules! hill_lines {
     };
 }
 
-/// What is done in `lines_of_json`.
+/// A line for the hill, each warrior and each match, or for the audit. A hill that isn't there is told in words.
 const LINES_OF_JSON: [Step; 16] = steps! {
     Run(small!("koth create lines.hill"), "CREATED\n", "", 0);
     Tell("koth show lines.hill --format json --matches", View::Plain,
@@ -102,12 +86,6 @@ const LINES_OF_JSON: [Step; 16] = steps! {
     Remove("lines.hill");
     Remove("lines.red");
 };
-
-/// A line for the hill, each warrior and each match, or for the audit. A hill that isn't there is told in words.
-#[test]
-fn lines_of_json(rt: HostRuntime) {
-    play(&rt, &LINES_OF_JSON);
-}
 
 /// What the second of a hill is answered, and a third that falls: an imp wins both rounds against one that loses at once.
 const SECOND: &str = concat!(
@@ -142,7 +120,8 @@ const ROUNDS: &str = concat!(
     "{\"type\":\"round\",\"round\":2,\"seed\":117649,\"position\":29,\"first\":\"B\",\"outcome\":\"A\",\"turns\":1}\n"
 );
 
-/// What is done in `judged_as_json`. A trial is answered as the submission is.
+/// A submission, a trial and a fight are told line by line, and a source that is refused by one line. A trial is answered as the
+/// submission is.
 const JUDGED: [Step; 16] = steps! {
     Run(small!("koth create judged.hill"), "CREATED\n", "", 0);
     Put("judged_dat.red", "DAT 0,0\n");
@@ -162,8 +141,18 @@ const JUDGED: [Step; 16] = steps! {
     Remove("judged.hill");
 };
 
-/// A submission, a trial and a fight are told line by line, and a source that is refused by one line.
+/// The tables above.
+const TABLES: [&[Step]; 5] = [
+    &A_HILL_IS_AUDITED,
+    &AN_EMPTY_HILL_IS_TRUE,
+    &MATCHES_ARE_SHOWN,
+    &LINES_OF_JSON,
+    &JUDGED,
+];
+
 #[test]
-fn judged_as_json(rt: HostRuntime) {
-    play(&rt, &JUDGED);
+fn results_of_a_hill(rt: HostRuntime) {
+    for steps in &TABLES {
+        play(&rt, steps);
+    }
 }

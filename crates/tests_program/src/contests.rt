@@ -27,7 +27,7 @@ const DAT: &str = "DAT 0,0\n";
 /// A source that is refused.
 const TYPO: &str = "DAT 0\nJMP\n";
 
-/// What is done in `many_opponents`: in the order of the words, a line for each, and the sum.
+/// Many opponents: in the order of the words, a line for each, and the sum.
 const MANY: [Step; 14] = steps! {
     Put("many_dwarf.red", DWARF);
     Put("many_imp.red", IMP);
@@ -47,11 +47,6 @@ const MANY: [Step; 14] = steps! {
     Remove("many_dat.red");
 };
 
-#[test]
-fn many_opponents(rt: HostRuntime) {
-    play(&rt, &MANY);
-}
-
 /// What is told of a source that is refused, and of one that is missing.
 const REFUSED: &str =
     "none_typo.red:2:1: MissingOperand: `JMP` needs an operand\n    2 | JMP\n      | ^^^\n";
@@ -61,7 +56,7 @@ const MISSING: &str = "DISK none_such.red: no such file or folder\n";
 const REFUSED_AND_MISSING: &str =
     "none_typo.red:2:1: MissingOperand: `JMP` needs an operand\n    2 | JMP\n      | ^^^\nDISK none_such.red: no such file or folder\n";
 
-/// What is done in `opponents_that_are_none`: the others are fought. Without the warrior itself nobody is.
+/// Opponents that are none: the others are fought. Without the warrior itself nobody is.
 const NONE: [Step; 14] = steps! {
     Put("none_dwarf.red", DWARF);
     Put("none_dat.red", DAT);
@@ -80,12 +75,7 @@ const NONE: [Step; 14] = steps! {
     Remove("none_typo.red");
 };
 
-#[test]
-fn opponents_that_are_none(rt: HostRuntime) {
-    play(&rt, &NONE);
-}
-
-/// What is done in `a_folder_of_opponents`: the files whose names end with `.red`, in the order of the bytes of their names.
+/// A folder of opponents: the files whose names end with `.red`, in the order of the bytes of their names.
 const FOLDER: [Step; 25] = steps! {
     Folder("field");
     Put("field/a.red", DAT);
@@ -117,16 +107,11 @@ const FOLDER: [Step; 25] = steps! {
     RemoveFolder("field");
 };
 
-#[test]
-fn a_folder_of_opponents(rt: HostRuntime) {
-    play(&rt, &FOLDER);
-}
-
 /// The rounds of the imp against the dwarf, which wins four of them.
 const ROUNDS_LOST: &str =
     "1 7 17 A tie 200\n2 117649 29 B tie 200\n3 1977326743 23 A tie 200\n4 621132276 31 B tie 200\n5 452154665 30 A tie 200\n6 1566311569 44 B B 88\n7 1143995257 47 A B 77\n8 707192808 43 B tie 200\n9 1615021558 53 A B 41\n10 1621510873 53 B B 34\n";
 
-/// What is done in `the_rounds_of_a_match`.
+/// The rounds of a match.
 const ROUNDS: [Step; 9] = steps! {
     Put("round_dwarf.red", DWARF);
     Put("round_imp.red", IMP);
@@ -140,16 +125,11 @@ const ROUNDS: [Step; 9] = steps! {
     Remove("round_imp.red");
 };
 
-#[test]
-fn the_rounds_of_a_match(rt: HostRuntime) {
-    play(&rt, &ROUNDS);
-}
-
 /// What is told of a page that a terminal has no use for.
 const NO_USE: &str =
     "error: a page needs '--output <FILE>' where standard output is a terminal\n\nFor more information, try '--help'.\n";
 
-/// What is done in `the_page_of_a_round`: that of the first round that ended so, or no page and no file.
+/// The page of a round: that of the first round that ended so, or no page and no file.
 const PAGES: [Step; 26] = steps! {
     Put("page_dwarf.red", DWARF);
     Put("page_imp.red", IMP);
@@ -179,7 +159,12 @@ const PAGES: [Step; 26] = steps! {
     Remove("page_imp.red");
 };
 
+/// The tables above.
+const TABLES: [&[Step]; 5] = [&MANY, &NONE, &FOLDER, &ROUNDS, &PAGES];
+
 #[test]
-fn the_page_of_a_round(rt: HostRuntime) {
-    play(&rt, &PAGES);
+fn a_warrior_against_many(rt: HostRuntime) {
+    for steps in &TABLES {
+        play(&rt, steps);
+    }
 }

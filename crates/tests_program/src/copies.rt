@@ -6,7 +6,7 @@ use koth_server::View;
 /// The table of a hill of two that lose at once: of their two rounds each won one.
 const TWO: &str = "1 1 3 1 Unnamed by Anonymous\n2 2 3 0 Unnamed by Anonymous\n.\n";
 
-/// What is done in `a_copy`: another seed than that of the hill would be answered the same way, so the settings are compared too.
+/// A copy: another seed than that of the hill would be answered the same way, so the settings are compared too.
 const A_COPY: [Step; 22] = steps! {
     Run(small!("koth create copied.hill"), "CREATED\n", "", 0);
     Put("copied.red", "DAT 0,0\n");
@@ -32,12 +32,6 @@ const A_COPY: [Step; 22] = steps! {
     Remove("untrue.hill");
     Remove("empty_copy.hill");
 };
-
-#[test]
-fn a_copy(rt: HostRuntime) {
-    play(&rt, &A_COPY);
-    play(&rt, &NO_COPY);
-}
 
 /// What is told if something has the name of the copy.
 const IN_USE: &str = "Occupied copy.hill: something has this name; take a new one\n";
@@ -76,7 +70,7 @@ const FELL: &str =
 const STAYS: &str =
     "PLACED 4 1 6\nwon  lost  tied  warrior  author\n  2     0     0  Unnamed  Anonymous\n  2     0     0  Unnamed  Anonymous\n";
 
-/// What is done in `a_submission_that_is_tried`: it is answered as it is when it is submitted then.
+/// A submission that is tried is answered as it is when it is submitted then.
 const TRIED: [Step; 18] = steps! {
     Run(small!("koth create tried.hill"), "CREATED\n", "", 0);
     Put("tried.red", "DAT 0,0\n");
@@ -98,16 +92,11 @@ const TRIED: [Step; 18] = steps! {
     Run("koth try tried.hill no_such_file", "", "DISK\n", 3);
 };
 
-#[test]
-fn a_submission_that_is_tried(rt: HostRuntime) {
-    play(&rt, &TRIED);
-}
-
 /// The settings of the hill with another seed.
 const ANOTHER_SEED: &str =
     "--core 64 --cycles 100 --processes 8 --length 10 --distance 10 --rounds 2 --capacity 2 --read-limit 0 --write-limit 0 --seed 8\n";
 
-/// What is done in `a_hill_with_another_seed`: the warriors of entries 1 and 3 are entries 1 and 2 of it, with their titles.
+/// A hill with another seed: the warriors of entries 1 and 3 are entries 1 and 2 of it, with their titles.
 const RESEEDED: [Step; 20] = steps! {
     Run(small!("koth create seed.hill"), "CREATED\n", "", 0);
     Run("koth reseed seed.hill no_warrior.hill --seed 8", "RESEEDED\n", "", 0);
@@ -131,12 +120,7 @@ const RESEEDED: [Step; 20] = steps! {
     Missing("zero.hill");
 };
 
-#[test]
-fn a_hill_with_another_seed(rt: HostRuntime) {
-    play(&rt, &RESEEDED);
-}
-
-/// What is done in `a_name_that_loses_its_last_blank`: a name of 47 letters, a blank as its 48th byte, and more, which is cut off.
+/// A name that loses its last blank: one of 47 letters, a blank as its 48th byte, and more, which is cut off.
 const LAST_BLANK: [Step; 8] = steps! {
     Run(small!("koth create blank.hill"), "CREATED\n", "", 0);
     Put("blank.red", ";name ABCDEFGHIJKLMNOPQRSTUVWXYZABCDEFGHIJKLMNOPQRSTU VWXYZ\nJMP 0\n");
@@ -148,11 +132,6 @@ const LAST_BLANK: [Step; 8] = steps! {
     Run("koth show without.hill", "1 1 0 0 ABCDEFGHIJKLMNOPQRSTUVWXYZABCDEFGHIJKLMNOPQRSTU by Anonymous\n.\n", "", 0);
 };
 
-#[test]
-fn a_name_that_loses_its_last_blank(rt: HostRuntime) {
-    play(&rt, &LAST_BLANK);
-}
-
 /// Words that the commands refuse.
 const REFUSED: [Step; 5] = steps! {
     Fault("koth copy copied.hill", "<NEW>");
@@ -162,7 +141,12 @@ const REFUSED: [Step; 5] = steps! {
     Help("koth copy --help", "--audit");
 };
 
+/// The tables above.
+const TABLES: [&[Step]; 6] = [&A_COPY, &NO_COPY, &TRIED, &RESEEDED, &LAST_BLANK, &REFUSED];
+
 #[test]
-fn words_that_are_refused(rt: HostRuntime) {
-    play(&rt, &REFUSED);
+fn tries_and_copies(rt: HostRuntime) {
+    for steps in &TABLES {
+        play(&rt, steps);
+    }
 }

@@ -27,12 +27,6 @@ const OVER_A_HILL: [Step; 6] = steps! {
     Remove("made.hill");
 };
 
-#[test]
-fn the_file_is_new(rt: HostRuntime) {
-    play(&rt, &OVER_EMPTY);
-    play(&rt, &OVER_A_HILL);
-}
-
 /// What is told if the name for the new file is taken.
 const TAKEN: &str =
     "DISK begun.hill: its name with .new after it is taken; remove that file, unless another koth is at work\n";
@@ -50,11 +44,6 @@ const LEFT_OVER: [Step; 9] = steps! {
     Remove("begun.hill");
 };
 
-#[test]
-fn a_new_file_that_is_left_over(rt: HostRuntime) {
-    play(&rt, &LEFT_OVER);
-}
-
 /// A link is in the way, whether something is where it leads or not.
 const LINKED: [Step; 12] = steps! {
     Link("linked.hill", "linked.red");
@@ -70,11 +59,6 @@ const LINKED: [Step; 12] = steps! {
     Remove("linked.hill");
     Remove("linked.red");
 };
-
-#[test]
-fn a_link_in_the_way(rt: HostRuntime) {
-    play(&rt, &LINKED);
-}
 
 /// What is told if a header can't be read.
 const NOTE: &str =
@@ -99,11 +83,6 @@ const UNREAD: [Step; 12] = steps! {
     Remove("noted.red");
 };
 
-#[test]
-fn a_header_that_cannot_be_read(rt: HostRuntime) {
-    play(&rt, &UNREAD);
-}
-
 /// A name with control characters and with others that aren't ASCII.
 const NAMES: [Step; 2] = steps! {
     Tell("koth show \u{1b}[2J\n\u{7f}\u{9b}\u{e9}.hill", View::Plain, "",
@@ -111,7 +90,19 @@ const NAMES: [Step; 2] = steps! {
     Tell("koth check \u{7}.red", View::Plain, "", "DISK \\x07.red: no such file or folder\n", 3);
 };
 
+/// The tables above.
+const TABLES: [&[Step]; 6] = [
+    &OVER_EMPTY,
+    &OVER_A_HILL,
+    &LEFT_OVER,
+    &LINKED,
+    &UNREAD,
+    &NAMES,
+];
+
 #[test]
-fn names_that_would_move_a_cursor(rt: HostRuntime) {
-    play(&rt, &NAMES);
+fn files_that_are_created(rt: HostRuntime) {
+    for steps in &TABLES {
+        play(&rt, steps);
+    }
 }

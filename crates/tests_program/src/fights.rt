@@ -18,7 +18,7 @@ macro_rules! small {
 /// A fight of two files under small settings.
 const FIGHT: &str = small!("koth fight older.red younger.red");
 
-/// What is done in `fights`.
+/// Fights.
 const FIGHTS: [Step; 14] = steps! {
     Put("older.red", "DAT 0,0\n");
     Put("younger.red", "DAT 0,0\n");
@@ -36,12 +36,7 @@ const FIGHTS: [Step; 14] = steps! {
     Remove("younger.red");
 };
 
-#[test]
-fn fights(rt: HostRuntime) {
-    play(&rt, &FIGHTS);
-}
-
-/// What is done in `a_fight_under_limits`: how a fight of an imp and a warrior that stays goes.
+/// How a fight of an imp and a warrior that stays goes under limits. Within one cell an imp copies itself onto itself, and dies.
 const A_FIGHT_UNDER_LIMITS: [Step; 6] = steps! {
     Put("imp.red", "MOV 0,1\n");
     Put("stays.red", "JMP 0\n");
@@ -51,13 +46,7 @@ const A_FIGHT_UNDER_LIMITS: [Step; 6] = steps! {
     Remove("stays.red");
 };
 
-/// Within one cell an imp copies itself onto itself, and dies.
-#[test]
-fn a_fight_under_limits(rt: HostRuntime) {
-    play(&rt, &A_FIGHT_UNDER_LIMITS);
-}
-
-/// What is done in `the_older_source_is_refused_first`. In the second fight there is no younger one.
+/// The older source is refused first. In the second fight there is no younger one.
 const THE_OLDER_SOURCE_IS_REFUSED_FIRST: [Step; 11] = steps! {
     Put("older.red", "");
     Put("younger.red", "JMP\n");
@@ -72,12 +61,7 @@ const THE_OLDER_SOURCE_IS_REFUSED_FIRST: [Step; 11] = steps! {
     Remove("younger.red");
 };
 
-#[test]
-fn the_older_source_is_refused_first(rt: HostRuntime) {
-    play(&rt, &THE_OLDER_SOURCE_IS_REFUSED_FIRST);
-}
-
-/// What is done in `files_that_are_not_there`: the older one is missing, the younger, and both.
+/// Files that are not there: the older one is missing, the younger, and both.
 const FILES_THAT_ARE_NOT_THERE: [Step; 7] = steps! {
     Put("second.red", "JMP\n");
     Tell(small!("koth fight first.red second.red"), View::Plain, "", "DISK first.red: no such file or folder\n", 3);
@@ -88,12 +72,7 @@ const FILES_THAT_ARE_NOT_THERE: [Step; 7] = steps! {
     Tell(small!("koth fight first.red second.red"), View::Plain, "", "DISK first.red: no such file or folder\n", 3);
 };
 
-#[test]
-fn files_that_are_not_there(rt: HostRuntime) {
-    play(&rt, &FILES_THAT_ARE_NOT_THERE);
-}
-
-/// What is done in `a_round_is_shown`.
+/// A round is shown.
 const A_ROUND_IS_SHOWN: [Step; 4] = steps! {
     Put("watched.red", ";name Watched\nMOV 0, 1\n");
     Page(small!("koth replay watched.red watched.red --round=2"), "Watched");
@@ -102,7 +81,18 @@ const A_ROUND_IS_SHOWN: [Step; 4] = steps! {
     Remove("watched.red");
 };
 
+/// The tables above.
+const TABLES: [&[Step]; 5] = [
+    &FIGHTS,
+    &A_FIGHT_UNDER_LIMITS,
+    &THE_OLDER_SOURCE_IS_REFUSED_FIRST,
+    &FILES_THAT_ARE_NOT_THERE,
+    &A_ROUND_IS_SHOWN,
+];
+
 #[test]
-fn a_round_is_shown(rt: HostRuntime) {
-    play(&rt, &A_ROUND_IS_SHOWN);
+fn fights(rt: HostRuntime) {
+    for steps in &TABLES {
+        play(&rt, steps);
+    }
 }

@@ -80,11 +80,8 @@ pub(crate) fn put_result(
     older: u8,
     younger: u8,
 ) {
-    let mut bytes = read(rt, file);
-    put_byte(rt, bytes.as_mut_slice(), 9 * 512 + 389, older);
-    put_byte(rt, bytes.as_mut_slice(), 9 * 512 + 391, younger);
-    put_bytes(rt, file, bytes.as_slice());
-    drop(bytes);
+    put_one_byte(rt, file, 9 * 512 + 389, older);
+    put_one_byte(rt, file, 9 * 512 + 391, younger);
 }
 
 /// Puts another byte into a file, at this place.
@@ -95,7 +92,10 @@ pub(crate) fn put_one_byte(
     byte: u8,
 ) {
     let mut bytes = read(rt, file);
-    put_byte(rt, bytes.as_mut_slice(), at, byte);
+    *bytes
+        .as_mut_slice()
+        .get_mut(at)
+        .expect(rt, "the file is longer") = byte;
     put_bytes(rt, file, bytes.as_slice());
     drop(bytes);
 }
@@ -114,9 +114,4 @@ pub(crate) fn set_mode(rt: &(impl Abort + Files), file: &str, mode: u32) {
 pub(crate) fn expect_private(rt: &(impl Abort + Files), file: &str) {
     let found = fs::symlink_metadata(rt, file).expect(rt, "it is there");
     expect_number(rt, u64::from(found.mode()), 0o100600, file);
-}
-
-/// Puts another byte in the place of this one.
-fn put_byte(rt: &impl Abort, bytes: &mut [u8], at: usize, byte: u8) {
-    *bytes.get_mut(at).expect(rt, "the slot") = byte;
 }

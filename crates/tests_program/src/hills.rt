@@ -5,7 +5,7 @@ use crate::steps::{Step, check_no_hill, play, small, steps};
 use std::net::{Ipv4Addr, SocketAddr, TcpListener};
 use std::process::Abort;
 
-/// What is done in `a_hill_is_created_once`.
+/// A hill is created once.
 const A_HILL_IS_CREATED_ONCE: [Step; 5] = steps! {
     Run(small!("koth create created.hill"), "CREATED\n", "", 0);
     Length("created.hill", 14 * 512);
@@ -14,26 +14,16 @@ const A_HILL_IS_CREATED_ONCE: [Step; 5] = steps! {
     Remove("created.hill");
 };
 
-#[test]
-fn a_hill_is_created_once(rt: HostRuntime) {
-    play(&rt, &A_HILL_IS_CREATED_ONCE);
-}
-
-/// What is done in `a_hill_that_cannot_be_created`.
+/// A hill that cannot be created.
 const A_HILL_THAT_CANNOT_BE_CREATED: [Step; 2] = steps! {
     Run(small!("koth create ."), "", "DISK\n", 3);
     Run(small!("koth create no_such_folder/new.hill"), "", "DISK\n", 3);
 };
 
-#[test]
-fn a_hill_that_cannot_be_created(rt: HostRuntime) {
-    play(&rt, &A_HILL_THAT_CANNOT_BE_CREATED);
-}
-
 /// Submits what is in the file of sources.
 const SUBMIT: &str = "koth submit submitted.hill submitted.red";
 
-/// What is done in `warriors_are_submitted`.
+/// Warriors are submitted.
 const WARRIORS_ARE_SUBMITTED: [Step; 14] = steps! {
     Run(small!("koth create submitted.hill"), "CREATED\n", "", 0);
     Put("submitted.red", ";name Imp\nMOV 0,1\n");
@@ -51,12 +41,7 @@ const WARRIORS_ARE_SUBMITTED: [Step; 14] = steps! {
     Remove("submitted.hill");
 };
 
-#[test]
-fn warriors_are_submitted(rt: HostRuntime) {
-    play(&rt, &WARRIORS_ARE_SUBMITTED);
-}
-
-/// What is done in `sources_that_cannot_be_read`.
+/// Sources that cannot be read.
 const SOURCES_THAT_CANNOT_BE_READ: [Step; 5] = steps! {
     Run(small!("koth create unread.hill"), "CREATED\n", "", 0);
     Run("koth submit unread.hill no_such_file", "", "DISK\n", 3);
@@ -64,11 +49,6 @@ const SOURCES_THAT_CANNOT_BE_READ: [Step; 5] = steps! {
     Run("koth show unread.hill", ".\n", "", 0);
     Remove("unread.hill");
 };
-
-#[test]
-fn sources_that_cannot_be_read(rt: HostRuntime) {
-    play(&rt, &SOURCES_THAT_CANNOT_BE_READ);
-}
 
 /// What is done first in `files_that_are_no_hills`.
 const NO_FILES: [Step; 2] = steps! {
@@ -78,17 +58,13 @@ const NO_FILES: [Step; 2] = steps! {
 
 #[test]
 fn files_that_are_no_hills(rt: HostRuntime) {
-    check_no_hills(&rt);
-}
-
-fn check_no_hills(rt: &(impl Abort + Host)) {
-    play(rt, &NO_FILES);
+    play(&rt, &NO_FILES);
     let zeros = [0; 1024];
-    put_bytes(rt, "no.hill", &zeros[..512]);
-    check_no_hill(rt, "no.hill", "TooSmall\n", 1);
-    put_bytes(rt, "no.hill", &zeros);
-    check_no_hill(rt, "no.hill", "NotAHill\n", 1);
-    remove(rt, "no.hill");
+    put_bytes(&rt, "no.hill", &zeros[..512]);
+    check_no_hill(&rt, "no.hill", "TooSmall\n", 1);
+    put_bytes(&rt, "no.hill", &zeros);
+    check_no_hill(&rt, "no.hill", "NotAHill\n", 1);
+    remove(&rt, "no.hill");
 }
 
 /// The port that a line names, if it names one.
@@ -187,11 +163,6 @@ const NOT_CREATED: [Step; 6] = steps! {
     Run("koth serve no_such_folder/new.hill --port=0 --connections=0 --create", "", "DISK\n", 3);
 };
 
-#[test]
-fn no_hill_is_created_for_a_service(rt: HostRuntime) {
-    play(&rt, &NOT_CREATED);
-}
-
 /// A service on this port, which is in use.
 fn check_port(rt: &(impl Abort + Host), port: u16) {
     let line = format!(in rt.alloc();
@@ -214,4 +185,20 @@ fn a_port_in_use(rt: HostRuntime) {
     check_port(&rt, port);
     drop(listener);
     remove(&rt, "in_use.hill");
+}
+
+/// The tables above.
+const TABLES: [&[Step]; 5] = [
+    &A_HILL_IS_CREATED_ONCE,
+    &A_HILL_THAT_CANNOT_BE_CREATED,
+    &WARRIORS_ARE_SUBMITTED,
+    &SOURCES_THAT_CANNOT_BE_READ,
+    &NOT_CREATED,
+];
+
+#[test]
+fn hills_and_submissions(rt: HostRuntime) {
+    for steps in &TABLES {
+        play(&rt, steps);
+    }
 }

@@ -24,7 +24,7 @@ const JMP: &str = "ORG 0\nJMP.B  $     0, $     0\nEND\n";
 
 const DAT: &str = "ORG 0\nDAT.F  $     0, $     0\nEND\n";
 
-/// What is done in `assembled_and_checked`. A file that is called `-` is another source than the input.
+/// What is assembled and checked. A file that is called `-` is another source than the input.
 const ASSEMBLED: [Step; 14] = steps! {
     Feed("koth asm", "JMP 0\n", JMP, "", 0);
     Feed("koth asm -", "JMP 0\n", JMP, "", 0);
@@ -43,12 +43,7 @@ const ASSEMBLED: [Step; 14] = steps! {
         "{\"file\":\"typed.red\",\"line\":1,\"column\":1,\"width\":3,\"kind\":\"BadOperation\",\"severity\":\"error\",\"message\":\"`MVO` is no operation; did you mean `MOV`?\",\"text\":\"MVO 0\"}\n", "", 1);
 };
 
-#[test]
-fn assembled_and_checked(rt: HostRuntime) {
-    play(&rt, &ASSEMBLED);
-}
-
-/// What is done in `fought_and_shown`: a warrior that stays wins both rounds against one that ends at once.
+/// What is fought and shown: a warrior that stays wins both rounds against one that ends at once.
 const FOUGHT: [Step; 20] = steps! {
     Put("input_stays.red", "JMP 0\n");
     Put("input_dat.red", "DAT 0,0\n");
@@ -72,12 +67,7 @@ const FOUGHT: [Step; 20] = steps! {
     Remove("input_stays.red");
 };
 
-#[test]
-fn fought_and_shown(rt: HostRuntime) {
-    play(&rt, &FOUGHT);
-}
-
-/// What is done in `submitted_and_tried`.
+/// What is submitted and tried.
 const SUBMITTED: [Step; 9] = steps! {
     Run(small!("koth create input.hill"), "CREATED\n", "", 0);
     Feed("koth try input.hill -", "JMP 0\n", "PLACED 1 1 0\n", "", 0);
@@ -89,11 +79,6 @@ const SUBMITTED: [Step; 9] = steps! {
     Run("koth show input.hill", "1 1 6 1 Unnamed by Anonymous\n2 2 0 0 Unnamed by Anonymous\n.\n", "", 0);
     Remove("input.hill");
 };
-
-#[test]
-fn submitted_and_tried(rt: HostRuntime) {
-    play(&rt, &SUBMITTED);
-}
 
 /// A source of which nothing is warned, and one that has no name, and an instruction after its end.
 const GOOD: &str = ";name Good\n;author Me\n;assert 1\nDAT 0\n";
@@ -115,7 +100,7 @@ const FAULT_AND_WARNED: &str =
 
 const MISSING: &str = "DISK seen_such.red: no such file or folder\n";
 
-/// What is done in `all_sources_are_checked`: also after one that can't be read. A warning changes the status only if warnings are denied.
+/// All sources are checked, also after one that can't be read. A warning changes the status only if warnings are denied.
 const CHECKED: [Step; 22] = steps! {
     Put("seen_good.red", GOOD);
     Put("seen_end.red", AFTER_END);
@@ -142,7 +127,12 @@ const CHECKED: [Step; 22] = steps! {
     Remove("seen_bad.red");
 };
 
+/// The tables above.
+const TABLES: [&[Step]; 4] = [&ASSEMBLED, &FOUGHT, &SUBMITTED, &CHECKED];
+
 #[test]
-fn all_sources_are_checked(rt: HostRuntime) {
-    play(&rt, &CHECKED);
+fn sources_from_standard_input(rt: HostRuntime) {
+    for steps in &TABLES {
+        play(&rt, steps);
+    }
 }

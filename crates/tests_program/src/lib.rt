@@ -6,29 +6,23 @@
 //! what a test here does. Then a module a subject:
 //!
 //! - `words`: which words are faults, ask for help, or give settings;
-//! - `assembling`, `fights` and `hills`: what the commands write, how they end, and what they do to files;
+//! - `fights` and `hills`: what the commands write, how they end, and what they do to files;
 //! - `contests`: a warrior against many, the rounds of a match, and the page of a round;
 //! - `inputs`: sources from standard input, and what `check` reports of sources;
 //! - `creations`: how the file of a new hill is put in its place, and headers and names that are told;
 //! - `copies`: what a submission would be answered, a copy of a hill, and a hill with another seed;
 //! - `seeds`: the seed that is drawn, and what is told of the default one;
-//! - `logs`: the log of a service whose output takes no line for a while;
 //! - `audits`: the results that a hill keeps, shown, audited, and changed in its file;
 //! - `matrices`: the matrix of a hill in columns, and one that has no room for these;
 //! - `pages`: the page of a hill;
 //! - `migrations`: a hill of the old format, which `tests_fixtures` has, and how it is moved to the new one;
-//! - `command_growths`: commands with each growth of memory refused in turn;
 //! - `told`: what people are told of each likely mistake, and output in columns.
 //!
-//! What a contract says is proved there and not tried here.
+//! What a contract says is proved there and not tried here. `tests_streams` tries streams, words and memory that fail.
 #![tactic(auto)]
 
 #[cfg(test)]
-mod assembling;
-#[cfg(test)]
 mod audits;
-#[cfg(test)]
-mod command_growths;
 #[cfg(test)]
 mod compare;
 #[cfg(test)]
@@ -45,8 +39,6 @@ mod files;
 mod hills;
 #[cfg(test)]
 mod inputs;
-#[cfg(test)]
-mod logs;
 #[cfg(test)]
 mod matrices;
 #[cfg(test)]

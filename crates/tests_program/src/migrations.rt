@@ -53,18 +53,13 @@ fn check_arrived(rt: &(impl Abort + Host)) {
     drop(arrived);
 }
 
-/// What is done in `an_old_hill_is_no_hill_before_it_is_moved`.
+/// An old hill is no hill before it is moved.
 const AN_OLD_HILL_IS_NO_HILL: [Step; 4] = steps! {
     PutOldHill("unmoved.hill");
     NoHill("unmoved.hill", "NotAHill\n", 1);
     Run("koth create unmoved.hill --capacity=3", "", "Occupied\n", 1);
     Remove("unmoved.hill");
 };
-
-#[test]
-fn an_old_hill_is_no_hill_before_it_is_moved(rt: HostRuntime) {
-    play(&rt, &AN_OLD_HILL_IS_NO_HILL);
-}
 
 /// The file of the next test.
 const KNOWN: &str = "known.hill";
@@ -131,13 +126,9 @@ fn check_newer(rt: &(impl Abort + Host)) {
 
 #[test]
 fn files_from_which_no_hill_is_moved(rt: HostRuntime) {
-    check_each_unmoved(&rt);
-}
-
-fn check_each_unmoved(rt: &(impl Abort + Host)) {
-    check_zeros(rt);
-    check_harmed(rt);
-    check_newer(rt);
+    check_zeros(&rt);
+    check_harmed(&rt);
+    check_newer(&rt);
 }
 
 /// Files of zeros, too short for a hill and long enough.
@@ -172,7 +163,7 @@ fn check_holding(rt: &(impl Abort + Host)) {
     remove(rt, "holding.hill");
 }
 
-/// What is done in `a_file_onto_itself`.
+/// A file onto itself: if both files are one, its lock is taken already, and the hill can be moved as before.
 const A_FILE_ONTO_ITSELF: [Step; 6] = steps! {
     PutOldHill("itself.hill");
     Run("koth migrate itself.hill itself.hill", "", "DISK\n", 3);
@@ -182,13 +173,7 @@ const A_FILE_ONTO_ITSELF: [Step; 6] = steps! {
     Remove("elsewhere.hill");
 };
 
-/// If both files are one, its lock is taken already, and the hill can be moved as before.
-#[test]
-fn a_file_onto_itself(rt: HostRuntime) {
-    play(&rt, &A_FILE_ONTO_ITSELF);
-}
-
-/// What is done in `files_that_cannot_be_opened_or_made`.
+/// Files that cannot be opened or made.
 const FILES_THAT_CANNOT_BE_OPENED: [Step; 6] = steps! {
     Run("koth migrate no_such_file unmade.hill", "", "DISK\n", 3);
     Missing("unmade.hill");
@@ -198,7 +183,16 @@ const FILES_THAT_CANNOT_BE_OPENED: [Step; 6] = steps! {
     Remove("staying.hill");
 };
 
+/// The tables above.
+const TABLES: [&[Step]; 3] = [
+    &AN_OLD_HILL_IS_NO_HILL,
+    &A_FILE_ONTO_ITSELF,
+    &FILES_THAT_CANNOT_BE_OPENED,
+];
+
 #[test]
-fn files_that_cannot_be_opened_or_made(rt: HostRuntime) {
-    play(&rt, &FILES_THAT_CANNOT_BE_OPENED);
+fn hills_that_are_moved_or_not(rt: HostRuntime) {
+    for steps in &TABLES {
+        play(&rt, steps);
+    }
 }

@@ -1,6 +1,6 @@
 use crate::steps::{Step, play, steps};
 
-/// What is done in `the_page_of_a_hill`.
+/// The page of a hill.
 const THE_PAGE_OF_A_HILL: [Step; 8] = steps! {
     Run("koth create paged.hill --rounds=2 --capacity=2 --seed=7", "CREATED\n", "", 0);
     Page("koth page paged.hill", "<p>No warrior stands on this hill yet.</p>\n");
@@ -12,12 +12,7 @@ const THE_PAGE_OF_A_HILL: [Step; 8] = steps! {
     Remove("paged.red");
 };
 
-#[test]
-fn the_page_of_a_hill(rt: HostRuntime) {
-    play(&rt, &THE_PAGE_OF_A_HILL);
-}
-
-/// What is done in `a_page_of_no_hill`.
+/// A page of no hill.
 const A_PAGE_OF_NO_HILL: [Step; 4] = steps! {
     Run("koth page nothing.hill", "", "DISK\n", 3);
     Put("page_of.red", "MOV 0, 1\n");
@@ -25,7 +20,12 @@ const A_PAGE_OF_NO_HILL: [Step; 4] = steps! {
     Remove("page_of.red");
 };
 
+/// The tables above.
+const TABLES: [&[Step]; 2] = [&THE_PAGE_OF_A_HILL, &A_PAGE_OF_NO_HILL];
+
 #[test]
-fn a_page_of_no_hill(rt: HostRuntime) {
-    play(&rt, &A_PAGE_OF_NO_HILL);
+fn pages(rt: HostRuntime) {
+    for steps in &TABLES {
+        play(&rt, steps);
+    }
 }

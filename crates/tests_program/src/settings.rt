@@ -16,7 +16,7 @@ const TINY: &str =
 const NANO: &str =
     ";assert CORESIZE == 80\n;assert MAXCYCLES == 800\n;assert MAXPROCESSES == 80\n;assert MAXLENGTH == 5\n;assert MINDISTANCE == 5\n;assert ROUNDS == 10\nDAT 0, 0\n";
 
-/// What is done in `presets`.
+/// Presets.
 const PRESETS: [Step; 12] = steps! {
     Put("preset.red", NOP);
     Run("koth asm preset.red", DAT, "", 0);
@@ -32,11 +32,6 @@ const PRESETS: [Step; 12] = steps! {
     Remove("preset.red");
 };
 
-#[test]
-fn presets(rt: HostRuntime) {
-    play(&rt, &PRESETS);
-}
-
 /// The settings of a small hill of two, as options without the seed.
 const SMALL: &str =
     "--core 64 --cycles 100 --processes 8 --length 10 --distance 10 --rounds 2 --capacity 2 --read-limit 0 --write-limit 0\n";
@@ -45,7 +40,7 @@ const SMALL: &str =
 const SMALL_WITH_SEED: &str =
     "--core 64 --cycles 100 --processes 8 --length 10 --distance 10 --rounds 2 --capacity 2 --read-limit 0 --write-limit 0 --seed 7\n";
 
-/// What is done in `settings_of_a_hill`.
+/// The settings of a hill.
 const OF_A_HILL: [Step; 22] = steps! {
     Run(small!("koth create liked.hill"), "CREATED\n", "", 0);
     Run("koth show liked.hill --settings", SMALL, "", 0);
@@ -72,7 +67,12 @@ const OF_A_HILL: [Step; 22] = steps! {
     Remove("alike.hill");
 };
 
+/// The tables above.
+const TABLES: [&[Step]; 2] = [&PRESETS, &OF_A_HILL];
+
 #[test]
-fn settings_of_a_hill(rt: HostRuntime) {
-    play(&rt, &OF_A_HILL);
+fn presets_and_settings(rt: HostRuntime) {
+    for steps in &TABLES {
+        play(&rt, steps);
+    }
 }

@@ -103,7 +103,7 @@ fn act(rt: &(impl Abort + Host), step: Step) {
         Step::OldHill(file) => expect_old_hill(rt, file),
         Step::Length(file, length) => expect_length(rt, file, length),
         Step::Private(file) => expect_private(rt, file),
-        Step::Missing(file) => expect_missing(rt, file),
+        Step::Missing(file) => expect(rt, !exists(rt, file), file),
         Step::Run(line, output, word, status) => check(rt, line, output, word, status),
         Step::Tell(line, view, output, errors, status) => {
             check_told(rt, line, view, output, errors, status);
@@ -126,11 +126,6 @@ fn act(rt: &(impl Abort + Host), step: Step) {
         Step::Refused(options, field) => check_options(rt, options, field),
         Step::NoHill(file, word, status) => check_no_hill(rt, file, word, status),
     }
-}
-
-/// A file is not there.
-fn expect_missing(rt: &(impl Abort + Host), file: &str) {
-    expect(rt, !exists(rt, file), file);
 }
 
 /// These words write a page that has this text, and nothing but the page.

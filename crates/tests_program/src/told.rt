@@ -1,17 +1,16 @@
 //! What people are told of each likely mistake, word for word.
 
-use crate::compare::{expect, expect_count, expect_same, expect_status};
-use crate::program::{Host, check_told, expect_done, run_on, text_in};
+use crate::compare::expect;
+use crate::program::Host;
 use crate::steps::{Step, play, small, steps};
-use koth_server::{Typed, View, refuse_arguments};
-use std::env::{Env, FillError};
+use koth_server::View;
 use std::fs;
 use std::process::Abort;
 
 /// What is told of a file that is missing.
 const MISSING: &str = "DISK told_missing: no such file or folder\n";
 
-/// What is done in `files_that_fail`.
+/// Files that fail.
 const FILES_THAT_FAIL: [Step; 6] = steps! {
     Tell("koth show told_missing", View::Table, "", MISSING, 3);
     Tell("koth submit told_missing x", View::Table, "", MISSING, 3);
@@ -21,15 +20,10 @@ const FILES_THAT_FAIL: [Step; 6] = steps! {
     Tell("koth create no_folder/x", View::Table, "", "DISK no_folder/x: no such file or folder\n", 3);
 };
 
-#[test]
-fn files_that_fail(rt: HostRuntime) {
-    play(&rt, &FILES_THAT_FAIL);
-}
-
 /// A text that is no hill.
 const TEXT: &str = "MOV 0, 1 ; a warrior, and no hill at all\n";
 
-/// What is done in `files_that_hold_something_else`.
+/// Files that hold something else.
 const FILES_THAT_HOLD_SOMETHING_ELSE: [Step; 9] = steps! {
     Put("told.red", TEXT);
     Tell("koth create told.red", View::Table, "",
@@ -42,11 +36,6 @@ const FILES_THAT_HOLD_SOMETHING_ELSE: [Step; 9] = steps! {
     Length("told.red", 14 * 512);
     Remove("told.red");
 };
-
-#[test]
-fn files_that_hold_something_else(rt: HostRuntime) {
-    play(&rt, &FILES_THAT_HOLD_SOMETHING_ELSE);
-}
 
 /// Settings out of their ranges, and what is told of them: the ranges that help has (`HELPS` in `words`).
 const OUT_OF_RANGE: [Step; 11] = steps! {
@@ -69,11 +58,6 @@ const OUT_OF_RANGE: [Step; 11] = steps! {
         "BadSettings ReadLimit: --read-limit is 3000, and must be 0 or a divisor of --core 8000\n", 1);
 };
 
-#[test]
-fn settings_out_of_range(rt: HostRuntime) {
-    play(&rt, &OUT_OF_RANGE);
-}
-
 /// What is told of a source with a name that nothing has.
 const TYPO: &str =
     "told_typo.red:2:11: UnknownName: nothing is called `strat`; did you mean `start`?\n    2 |       JMP strat\n      |           ^^^^^\n";
@@ -81,7 +65,7 @@ const TYPO: &str =
 /// What is written of it.
 const UNKNOWN: &str = "REFUSED 2 UnknownName\n";
 
-/// What is done in `refusals`.
+/// A refusal names the file that it is of.
 const REFUSALS: [Step; 9] = steps! {
     Put("told_good.red", "MOV 0, 1\n");
     Put("told_typo.red", "start SPL 0\n      JMP strat\n");
@@ -94,13 +78,7 @@ const REFUSALS: [Step; 9] = steps! {
     Remove("told_typo.red");
 };
 
-/// A refusal names the file that it is of.
-#[test]
-fn refusals(rt: HostRuntime) {
-    play(&rt, &REFUSALS);
-}
-
-/// What is done in `columns_for_people`: a hill with one warrior, the second that is submitted, both tables, and a fight of both.
+/// Columns for people: a hill with one warrior, the second that is submitted, both tables, and a fight of both.
 const COLUMNS_FOR_PEOPLE: [Step; 11] = steps! {
     Run(small!("koth create told.hill"), "CREATED\n", "", 0);
     Put("told_dat.red", ";name Dat\nDAT 0\n");
@@ -120,11 +98,6 @@ const COLUMNS_FOR_PEOPLE: [Step; 11] = steps! {
     Remove("told_dat.red");
     Remove("told_jmp.red");
 };
-
-#[test]
-fn columns_for_people(rt: HostRuntime) {
-    play(&rt, &COLUMNS_FOR_PEOPLE);
-}
 
 /// A hill is made.
 const MADE: [Step; 1] = steps! {
@@ -168,100 +141,24 @@ fn check_held(rt: &(impl Abort + Host), steps: &[Step]) {
     drop(held);
 }
 
+/// The version.
+const THE_VERSION: [Step; 1] = steps! {
+    Tell("koth --version", View::Plain, "koth 1.0.0\n", "", 0);
+};
+
+/// The tables above.
+const TABLES: [&[Step]; 6] = [
+    &FILES_THAT_FAIL,
+    &FILES_THAT_HOLD_SOMETHING_ELSE,
+    &OUT_OF_RANGE,
+    &REFUSALS,
+    &COLUMNS_FOR_PEOPLE,
+    &THE_VERSION,
+];
+
 #[test]
-fn the_version(rt: HostRuntime) {
-    check_told(&rt, "koth --version", View::Plain, "koth 1.0.0\n", "", 0);
-}
-
-/// Arguments that are given.
-#[derive(Clone, Copy)]
-struct Given<'g> {
-    words: &'g [&'g [u8]],
-}
-
-impl Env for Given<'_> {
-    fn arg(&self, i: usize, buf: &mut [u8]) -> Result<usize, FillError> {
-        let Some(word) = self.words.get(i).copied() else {
-            return Err(FillError::NotPresent);
-        };
-        if word.len() > buf.len() {
-            return Err(FillError::TooLong);
-        }
-        buf[..word.len()].copy_from_slice(word);
-        Ok(word.len())
+fn what_is_told(rt: HostRuntime) {
+    for steps in &TABLES {
+        play(&rt, steps);
     }
-
-    fn var(&self, _name: &str, _buf: &mut [u8]) -> Result<usize, FillError> {
-        Err(FillError::NotPresent)
-    }
-
-    fn var_at(&self, _i: usize, _buf: &mut [u8]) -> Result<usize, FillError> {
-        Err(FillError::NotPresent)
-    }
-}
-
-/// What ends the report of wrong arguments.
-const HELP: &str = "\n\nFor more information, try '--help'.\n";
-
-/// Arguments of which the last two are no text.
-const SECOND: [&[u8]; 4] = [b"koth", b"show", b"\xff.hill", b"\xfe"];
-
-/// Arguments of which the last is no text, since it ends within a character.
-const FIRST: [&[u8]; 2] = [b"k\xc3\xa9", b"\xc3\xa9\n'\xc3"];
-
-/// These arguments are refused, and this is told in the first line.
-fn check_arguments(rt: &(impl Abort + AllocGlobal), words: &[&[u8]], told: &str) {
-    let mut errors = Vec::new(rt.alloc());
-    let status = refuse_arguments(&Given { words }, rt.alloc(), &mut errors).code();
-    expect_refusal(rt, text_in(&errors), told);
-    drop(errors);
-    expect_status(rt, status, 2, told);
-}
-
-/// This line was told, and then where help is.
-fn expect_refusal(rt: &impl Abort, errors: &str, told: &str) {
-    expect(rt, errors.starts_with(told), errors);
-    expect(rt, errors.ends_with(HELP), errors);
-    expect_count(
-        rt,
-        errors.len(),
-        told.len().saturating_add(HELP.len()),
-        errors,
-    );
-}
-
-/// The first argument that is no text is told, by its number and as ASCII: a character of more than one byte as its bytes, too.
-#[test]
-fn arguments_that_are_no_text(rt: HostRuntime) {
-    check_arguments(&rt, &SECOND, "error: argument 2 is not UTF-8: '\\xff.hill'");
-    check_arguments(
-        &rt,
-        &FIRST,
-        "error: argument 1 is not UTF-8: '\\xc3\\xa9\\n\\'\\xc3'",
-    );
-    check_arguments(&rt, &SECOND[..2], "error: an argument is not UTF-8");
-}
-
-/// What is told before a source is read from a terminal.
-const TYPED: &str = "reading the source from standard input; Ctrl-D ends it\n";
-
-/// A run with these words, of which this is told before the input is read.
-fn check_typed(rt: &(impl Abort + Host), line: &str, is_terminal: bool, told: &str) {
-    let mut said = Vec::new(rt.alloc());
-    let mut input = Typed::new(b"MOV 0, 1\n".as_slice(), &mut said, is_terminal);
-    let ran = run_on(rt, line, &mut input);
-    drop(input);
-    expect_done(rt, &ran);
-    drop(ran);
-    expect_same(rt, text_in(&said), told);
-    drop(said);
-}
-
-/// It is told once, and only if the input is read and is a terminal.
-#[test]
-fn a_source_that_is_typed(rt: HostRuntime) {
-    check_typed(&rt, "koth asm", true, TYPED);
-    check_typed(&rt, "koth asm -", true, TYPED);
-    check_typed(&rt, "koth asm", false, "");
-    check_typed(&rt, "koth --version", true, "");
 }

@@ -123,11 +123,6 @@ const FAULTS: [Step; 98] = steps! {
     Fault("koth fight a b --round 1", "unexpected argument '--round'");
 };
 
-#[test]
-fn faults_of_the_words(rt: HostRuntime) {
-    play(&rt, &FAULTS);
-}
-
 /// Words that ask for help: it is written on the output.
 pub(crate) fn check_help(rt: &(impl Abort + Host), line: &str, part: &str) {
     let ran = run_line(rt, line);
@@ -193,11 +188,6 @@ const HELPS: [Step; 51] = steps! {
 };
 
 #[test]
-fn help_is_written_to_the_output(rt: HostRuntime) {
-    play(&rt, &HELPS);
-}
-
-#[test]
 fn options_give_settings(rt: HostRuntime) {
     let text = "ORG 0\nDAT.F  $     0, $    -1\nEND\n";
     let small = "koth asm --core 64 --length 10 --distance=10";
@@ -252,7 +242,12 @@ pub(crate) fn check_options(rt: &(impl Abort + Host), options: &str, field: &str
     drop(told);
 }
 
+/// The tables above.
+const TABLES: [&[Step]; 3] = [&FAULTS, &HELPS, &OUT_OF_RANGE];
+
 #[test]
-fn settings_are_refused_before_anything_is_read(rt: HostRuntime) {
-    play(&rt, &OUT_OF_RANGE);
+fn words(rt: HostRuntime) {
+    for steps in &TABLES {
+        play(&rt, steps);
+    }
 }

@@ -1,18 +1,42 @@
+//! A command whose source can't be read to its end, whose output is full, or whose reads and writes are interrupted.
+
 use crate::compare::{expect, expect_count, expect_number, expect_same_bytes, expect_status};
-use crate::program::{Host, Ran, check_on, run_on, status_on};
-use koth_server::View;
+use crate::program::{Host, Ran, expect_text, run_on, status_on, text_in};
 use std::process::Abort;
 use tests_fixtures::{FULL, Full, FullWriter, one_by_one, reader, writer};
+
+/// A run with these words and this input writes this to its output, and has this status. A refusal is explained on standard error, and
+/// nothing else stands there. How much of the input is left then is the answer.
+fn check_on(rt: &(impl Abort + Host), line: &str, input: &[u8], output: &str, status: u8) -> usize {
+    let mut left = input;
+    let ran = run_on(rt, rt.alloc(), line, &mut left);
+    expect_ran(rt, &ran, output, status, line);
+    drop(ran);
+    left.len()
+}
+
+/// A run wrote this to its output, explained a refusal, and had this status.
+fn expect_ran(rt: &impl Abort, ran: &Ran, output: &str, status: u8, line: &str) {
+    let errors = text_in(&ran.errors);
+    let is_due = if output.starts_with("REFUSED") {
+        errors.contains(": ")
+    } else {
+        errors.is_empty()
+    };
+    expect_text(rt, &ran.output, output);
+    expect(rt, is_due, errors);
+    expect_status(rt, ran.status, status, line);
+}
 
 #[test]
 fn a_warrior_is_printed(rt: HostRuntime) {
     let text = "ORG 0\nMOV.I  $     0, $     1\nEND\n";
-    check_on(&rt, "koth asm", b"MOV 0, 1\n", text, "", 0);
+    check_on(&rt, "koth asm", b"MOV 0, 1\n", text, 0);
 }
 
 /// A source is refused so, and so much of it is not read.
 fn check_refused(rt: &(impl Abort + Host), source: &[u8], output: &str, left: usize) {
-    let found = check_on(rt, "koth asm", source, output, "", 1);
+    let found = check_on(rt, "koth asm", source, output, 1);
     expect_count(rt, found, left, output);
 }
 
@@ -44,7 +68,7 @@ fn check_read(
     status: u8,
 ) -> u64 {
     let mut input = reader(b"\n\n\n\n\n\n", most, fails_at);
-    let ran = run_on(rt, "koth asm", &mut input);
+    let ran = run_on(rt, rt.alloc(), "koth asm", &mut input);
     expect_begun(rt, &ran, fails_at, output, errors, status);
     drop(ran);
     let reads = input.reads;
@@ -98,7 +122,6 @@ fn check_output(rt: &(impl Abort + Host), line: &str, output: &mut FullWriter) {
         rt,
         rt.alloc(),
         line,
-        View::Plain,
         &mut b"".as_slice(),
         output,
         &mut errors,
@@ -159,7 +182,7 @@ fn text_of(
 fn check_lines(rt: &(impl Abort + Host), count: usize, output: &str, status: u8) {
     let line = "koth asm --length 200 --distance 200";
     let source = text_of(rt, "", "DAT 0\n", count, "");
-    check_on(rt, line, source.as_bytes(), output, "", status);
+    check_on(rt, line, source.as_bytes(), output, status);
     drop(source);
 }
 
@@ -189,7 +212,6 @@ fn check_signals(rt: &(impl Abort + Host)) {
         rt,
         rt.alloc(),
         "koth asm",
-        View::Plain,
         &mut input,
         &mut output,
         &mut errors,

@@ -1,9 +1,9 @@
 //! The log of a service whose output takes no line for a while.
 
 use crate::compare::{expect, expect_count, expect_status};
-use crate::files::remove;
 use crate::program::{Host, status_on, text_in};
-use koth_server::{LogWrite, View};
+use crate::steps::remove;
+use koth_server::LogWrite;
 use std::io;
 use std::io::Write;
 use std::process::Abort;
@@ -55,15 +55,7 @@ fn check_log(rt: &(impl Abort + Host), refuses: u32, told: &str, count: usize) {
     let mut log = Busy { refuses, taken };
     let mut input = b"".as_slice();
     let mut output = Vec::new(rt.alloc());
-    let status = status_on(
-        rt,
-        rt.alloc(),
-        line,
-        View::Plain,
-        &mut input,
-        &mut output,
-        &mut log,
-    );
+    let status = status_on(rt, rt.alloc(), line, &mut input, &mut output, &mut log);
     drop(output);
     expect_status(rt, status, 0, line);
     expect_log(rt, text_in(&log.taken), told, count);
