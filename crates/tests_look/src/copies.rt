@@ -1,12 +1,16 @@
 //! What a store is asked without changing it: a copy on another device, and what a source would be answered.
 
+use crate::expecting::answered;
+use crate::hills::opened_on;
 use hill_store::{Refusal, Reply, Store};
 use koth_hill::Verdict;
 use sector_disk::{Device, FuseDevice, FuseKind, MemoryDevice};
 use std::alloc::{Allocator, Global};
 use std::process::Abort;
 use tests_fixtures::Refusing;
-use tests_stores::{SECTORS, SMALL, audit, blank, close, created, opened, settings_from, submit};
+use tests_stores::{
+    Answered, FIRST, SECOND, SECTORS, SMALL, audit, blank, created, opened, settings_from, submit,
+};
 
 /// Calls of the new device when a hill of two warriors is copied: a sync and both headers, four sectors of each warrior, a sync, a header, a
 /// sync.
@@ -15,16 +19,12 @@ const COPYING: u64 = 3 + 8 + 3;
 /// What a third warrior of the hill of `two_on` is answered: it ties with one, and loses to the other.
 const SOURCES: [&[u8]; 4] = [b"MOV 0,1", b"DAT 0,0", b"JMP 0", b"MVO 0"];
 
+/// The two warriors of a hill.
+const TWO: [Answered; 2] = [(b"JMP 0", FIRST), (b"MOV 0,1", SECOND)];
+
 /// A store of a hill with two warriors.
 fn two_on(rt: &(impl Abort + AllocGlobal)) -> Store<MemoryDevice<Global>, Global> {
-    let settings = settings_from(SMALL).expect(rt, "they are settings");
-    let device = blank(rt.alloc()).expect(rt, "there is memory");
-    let mut store = created(rt.alloc(), device, settings).expect(rt, "it is created");
-    for source in [b"JMP 0".as_slice(), b"MOV 0,1".as_slice()] {
-        let reply = submit(&mut store, source);
-        assert!(rt; matches!(reply, Reply::Placed { .. }));
-    }
-    store
+    opened_on(rt, answered(rt, &TWO))
 }
 
 /// `Store::copy_to`.

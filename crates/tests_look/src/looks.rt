@@ -1,5 +1,6 @@
 //! A hill that is looked at while a warrior is placed, with each read failing and each growth refused.
 
+use crate::expecting::answered;
 use crate::passing::{Goes, Passing};
 use hill_look::{LookRefusal, look_at_hill};
 use hill_store::{Refusal, Reply, Store};
@@ -7,7 +8,7 @@ use sector_disk::{Device, FuseDevice, FuseKind, MemoryDevice};
 use std::alloc::{Allocator, Global};
 use std::process::Abort;
 use tests_fixtures::Refusing;
-use tests_stores::{SECTORS, SMALL, blank, close, created, opened, settings_from, submit};
+use tests_stores::{Answered, FIRST, SECTORS, close, opened, submit};
 
 /// Calls of the device when a hill of one warrior is opened: a sync, two headers, and the four sectors of its slot.
 const OPENING: u64 = 7;
@@ -21,15 +22,8 @@ const TRY: u64 = SECTORS as u64;
 /// Reads of a look at which nothing changes: both headers twice, and the other sectors.
 const LOOK: u64 = SECTORS as u64 + 2;
 
-/// A device with a hill of one warrior.
-fn one_on(rt: &(impl Abort + AllocGlobal)) -> MemoryDevice<Global> {
-    let settings = settings_from(SMALL).expect(rt, "they are settings");
-    let device = blank(rt.alloc()).expect(rt, "there is memory");
-    let mut store = created(rt.alloc(), device, settings).expect(rt, "it is created");
-    let reply = submit(&mut store, b"JMP 0");
-    assert!(rt; matches!(reply, Reply::Placed { .. }));
-    close(store)
-}
+/// The one warrior of a hill.
+const ONE: [Answered; 1] = [(b"JMP 0", FIRST)];
 
 /// What stands on the device if another warrior is placed and the device stops after `calls` of these calls.
 fn stopped_at(
@@ -47,7 +41,7 @@ fn stopped_at(
 
 /// The device before a warrior is placed, after each of the calls of that, and at the end.
 fn images(rt: &(impl Abort + AllocGlobal)) -> Vec<MemoryDevice<Global>, Global> {
-    let device = one_on(rt);
+    let device = answered(rt, &ONE);
     let mut images = Vec::new(rt.alloc());
     for calls in 0..PLACING + 1 {
         let image = stopped_at(rt, &device, calls);
@@ -71,7 +65,7 @@ fn placing(rt: &(impl Abort + AllocGlobal)) -> Passing {
 
 /// A source of which each try finds the headers of another hill.
 fn changing(rt: &(impl Abort + AllocGlobal)) -> Passing {
-    let one = one_on(rt);
+    let one = answered(rt, &ONE);
     let two = stopped_at(rt, &one, PLACING);
     let mut devices = Vec::new(rt.alloc());
     assert!(rt; devices.push(one).is_ok());
