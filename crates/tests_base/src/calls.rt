@@ -1,5 +1,6 @@
-//! The calls of devices in memory, as the tests make them. These functions have no clauses, so the proof of a test carries none of a
-//! call's along. A call that is to be done and isn't ends the test at once, so a test has no way out of its middle.
+//! The calls of devices in memory, as the tests make them. These functions have no clauses, so the proof of a test
+//! carries none of a call's along. A call that is to be done and isn't ends the test at once, so a test has no way
+//! out of its middle.
 
 use crate::expecting::expect_same;
 use sector_disk::{Device, Fault, MemoryDevice};

@@ -11,8 +11,9 @@
 //! - `tables`: macros by which tests write their tables.
 //!
 //! What one growth does to a `Plan` is proved. No contract says what a cell holds, so that `Refusing` follows its plan,
-//! and that it gives memory back, are shown by tests alone: `refusing` of `tests_base`, and each test that refuses growths pins their
-//! count. Nor does one say what the streams do beyond the contracts of the traits: the tests that use them pin it.
+//! and that it gives memory back, are shown by tests alone: `refusing` of `tests_base`, and each test that refuses
+//! growths pins their count. Nor does one say what the streams do beyond the contracts of the traits: the tests that
+//! use them pin it.
 #![tactic(auto)]
 
 ghost use Rattle.std.specs.Prelude.{◌≤◌};

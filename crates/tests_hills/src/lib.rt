@@ -4,7 +4,8 @@
 //! No crate stands on this one, so those are proved once, without tests, and the tests are proved over them, with the
 //! warriors of `tests_fixtures`. A module a subject:
 //!
-//! - `hill`: what a hill of few places and a full hill make of a warrior, and what becomes of results that are put back;
+//! - `hill`: what a hill of few places and a full hill make of a warrior, and what becomes of results that are put
+//!   back;
 //! - `growths`: which calls of hills, matches and the machine take memory;
 //! - `pages`: the pages and the columns of hills.
 //!

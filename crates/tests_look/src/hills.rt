@@ -1,4 +1,5 @@
-//! Devices in memory, and hills of two on them, as the tests make them. What is to be done and isn't ends the test at once.
+//! Devices in memory, and hills of two on them, as the tests make them. What is to be done and isn't ends the test at
+//! once.
 
 use hill_store::Store;
 use sector_disk::{Device, MemoryDevice};

@@ -7,9 +7,9 @@
 //! - `earlier`: a hill from before limits;
 //! - `twenty`: a full one.
 //!
-//! `hills` makes devices and hills on them, and `tests_stores` devices in the old format and moves. `expecting` has what
-//! tests expect of a store. What they expect was counted by hand. A test here must not show what a contract could say
-//! instead.
+//! `hills` makes devices and hills on them, and `tests_stores` devices in the old format and moves. `expecting` has
+//! what tests expect of a store. What they expect was counted by hand. A test here must not show what a contract
+//! could say instead.
 #![tactic(auto)]
 
 #[cfg(test)]

@@ -120,8 +120,8 @@ const ROUNDS: &str = concat!(
     "{\"type\":\"round\",\"round\":2,\"seed\":117649,\"position\":29,\"first\":\"B\",\"outcome\":\"A\",\"turns\":1}\n"
 );
 
-/// A submission, a trial and a fight are told line by line, and a source that is refused by one line. A trial is answered as the
-/// submission is.
+/// A submission, a trial and a fight are told line by line, and a source that is refused by one line. A trial is
+/// answered as the submission is.
 const JUDGED: [Step; 16] = steps! {
     Run(small!("koth create judged.hill"), "CREATED\n", "", 0);
     Put("judged_dat.red", "DAT 0,0\n");

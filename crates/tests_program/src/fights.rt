@@ -36,7 +36,8 @@ const FIGHTS: [Step; 14] = steps! {
     Remove("younger.red");
 };
 
-/// How a fight of an imp and a warrior that stays goes under limits. Within one cell an imp copies itself onto itself, and dies.
+/// How a fight of an imp and a warrior that stays goes under limits. Within one cell an imp copies itself onto
+/// itself, and dies.
 const A_FIGHT_UNDER_LIMITS: [Step; 6] = steps! {
     Put("imp.red", "MOV 0,1\n");
     Put("stays.red", "JMP 0\n");

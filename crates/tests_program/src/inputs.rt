@@ -100,7 +100,8 @@ const FAULT_AND_WARNED: &str =
 
 const MISSING: &str = "DISK seen_such.red: no such file or folder\n";
 
-/// All sources are checked, also after one that can't be read. A warning changes the status only if warnings are denied.
+/// All sources are checked, also after one that can't be read. A warning changes the status only if warnings are
+/// denied.
 const CHECKED: [Step; 22] = steps! {
     Put("seen_good.red", GOOD);
     Put("seen_end.red", AFTER_END);

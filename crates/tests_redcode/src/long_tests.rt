@@ -16,8 +16,8 @@ type Long = (
     Option<(u32, AsmKind)>,
 );
 
-/// Sources of the greatest length that meet millions of blocks without a copy, or repeat a line of 65,500 tokens. A line that is one too many
-/// is refused for that before its label is.
+/// Sources of the greatest length that meet millions of blocks without a copy, or repeat a line of 65,500 tokens. A
+/// line that is one too many is refused for that before its label is.
 const REFUSED: [Long; 5] = rows! {
     "FOR 400\n" => "FOR 0\nROF\n", 6550, "ROF\n", Some((0, AsmKind::Empty));
     "i FOR 400\n" => "FOR -i\nROF\n", 5900, "ROF\n", Some((0, AsmKind::Empty));

@@ -3,8 +3,8 @@
 use crate::scripts::{Act, follow};
 use koth_session::{PeerEnd, Step};
 
-/// While a submission is under way a table is that of the hill before it, `BAD` and `QUIT` are carried out, and the next submission waits for its
-/// turn. So does the table of the peer that submits.
+/// While a submission is under way a table is that of the hill before it, `BAD` and `QUIT` are carried out, and the
+/// next submission waits for its turn. So does the table of the peer that submits.
 const BESIDE_A_SUBMISSION: [Act; 15] = [
     Act::Come(0, "SUBMIT\nMOV 0,1\n.\nSHOW\n"),
     Act::Come(1, "SHOW\nSUBMIT\nJMP 0\n.\n"),

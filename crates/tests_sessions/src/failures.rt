@@ -11,8 +11,8 @@ use std::process::Abort;
 use tests_fixtures::Refusing;
 use tests_stores::opened;
 
-/// The device fails at the header of a submission, after ten calls: five make the hill, and five write a slot and sync. Nothing is answered to
-/// its peer, and another one is served on the hill that is opened again.
+/// The device fails at the header of a submission, after ten calls: five make the hill, and five write a slot and
+/// sync. Nothing is answered to its peer, and another one is served on the hill that is opened again.
 #[test]
 fn a_device_that_fails(rt: HostRuntime) {
     serve_over_a_fault(&rt);
@@ -104,8 +104,8 @@ fn serve_without(rt: &(impl Abort + AllocGlobal), memory: &Refusing<Global>, tak
     drop(judge);
 }
 
-/// A peer takes four growths: for a line, a source, the bytes that wait and 96 bytes of answers. Then one is taken for the answer after
-/// 24 of four bytes each.
+/// A peer takes four growths: for a line, a source, the bytes that wait and 96 bytes of answers. Then one is taken
+/// for the answer after 24 of four bytes each.
 fn refuse_alone<'m, D: Device>(
     rt: &impl Abort,
     memory: &'m Refusing<Global>,
@@ -132,8 +132,9 @@ fn refuse_alone<'m, D: Device>(
     waits(rt, peers, 0, 96);
 }
 
-/// The nine growths of an assembly are refused in turn: each time the source is answered `MEMORY`, and nothing is under way. Then a submission
-/// is begun, and the growth for a table beside it is refused: that peer's session ends, and the submission goes on.
+/// The nine growths of an assembly are refused in turn: each time the source is answered `MEMORY`, and nothing is
+/// under way. Then a submission is begun, and the growth for a table beside it is refused: that peer's session ends,
+/// and the submission goes on.
 fn refuse_beside<'m, D: Device>(
     rt: &impl Abort,
     memory: &'m Refusing<Global>,
@@ -161,8 +162,8 @@ fn refuse_beside<'m, D: Device>(
     send(rt, peers, 0, "PLACED 1 1 0\n");
 }
 
-/// The nine growths of an assembly are refused in turn while the submission of another peer is under way: each time the source is answered
-/// `MEMORY`. With all nine it is put off, and judged after that submission.
+/// The nine growths of an assembly are refused in turn while the submission of another peer is under way: each time
+/// the source is answered `MEMORY`. With all nine it is put off, and judged after that submission.
 fn refuse_another<'m, D: Device>(
     rt: &impl Abort,
     memory: &'m Refusing<Global>,

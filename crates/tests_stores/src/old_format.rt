@@ -1,7 +1,7 @@
 //! Devices in the old format, made from those in the new one that hold the same.
 //!
-//! A slot of the old format has two sectors. The first holds instructions 0 to 63, as in the new one. The other holds instructions 64 to 99
-//! and, from 288 on, the fields that the last sector of the new one has.
+//! A slot of the old format has two sectors. The first holds instructions 0 to 63, as in the new one. The other holds
+//! instructions 64 to 99 and, from 288 on, the fields that the last sector of the new one has.
 
 use crate::sectors::{put, sector};
 use hill_bytes::{decode_header, encode_old_header};

@@ -5,8 +5,8 @@ use crate::program::{Host, Ran, expect_text, run_on, status_on, text_in};
 use std::process::Abort;
 use tests_fixtures::{FULL, Full, FullWriter, one_by_one, reader, writer};
 
-/// A run with these words and this input writes this to its output, and has this status. A refusal is explained on standard error, and
-/// nothing else stands there. How much of the input is left then is the answer.
+/// A run with these words and this input writes this to its output, and has this status. A refusal is explained on
+/// standard error, and nothing else stands there. How much of the input is left then is the answer.
 fn check_on(rt: &(impl Abort + Host), line: &str, input: &[u8], output: &str, status: u8) -> usize {
     let mut left = input;
     let ran = run_on(rt, rt.alloc(), line, &mut left);

@@ -101,7 +101,8 @@ fn expect_begun(rt: &impl Abort, ran: &Ran, command: &Command) {
     expect_status(rt, ran.status, 4, command.line);
 }
 
-/// An explanation, of which growth `k` is refused: the refusal is answered all the same. Whether it took no more growths is the answer.
+/// An explanation, of which growth `k` is refused: the refusal is answered all the same. Whether it took no more
+/// growths is the answer.
 fn is_explained(rt: &(impl Abort + Host), memory: &Refusing<Global>, k: u64) -> bool {
     let input = "MOV 0, 1\nMVO 0, 1\n";
     let (ran, refused) = run_without(rt, memory, k, "koth asm", input);

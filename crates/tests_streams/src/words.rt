@@ -63,7 +63,8 @@ fn expect_refusal(rt: &impl Abort, errors: &str, told: &str) {
     );
 }
 
-/// The first argument that is no text is told, by its number and as ASCII: a character of more than one byte as its bytes, too.
+/// The first argument that is no text is told, by its number and as ASCII: a character of more than one byte as its
+/// bytes, too.
 #[test]
 fn arguments_that_are_no_text(rt: HostRuntime) {
     check_arguments(&rt, &SECOND, "error: argument 2 is not UTF-8: '\\xff.hill'");

@@ -31,7 +31,8 @@ pub(crate) fn put(
     hill.put_back(entry, age, warrior, bouts);
 }
 
-/// A hill of two with the entries 2, which waits, and 5, which dies at once, of five ever judged, and this result of the two.
+/// A hill of two with the entries 2, which waits, and 5, which dies at once, of five ever judged, and this result of
+/// the two.
 pub(crate) fn hill_put_back(rt: &(impl Abort + AllocGlobal), kept: Bout) -> Hill<Global>
     requires { rounds_in kept ≡ 2 }
     ensures { result.settings.core ≡ 64 }
