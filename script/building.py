@@ -22,7 +22,7 @@ MORE_JOBS, MOST_JOBS = 0.6, 4  # of that for each further job of a check; more t
 SECONDS = {
     "war_types": 83, "redcode_text": 88, "redcode_lines": 88, "redcode_statement": 51, "redcode_copies": 102, "redcode_names": 142,
     "redcode_expand": 285, "redcode_warnings": 105, "redcode_asm": 111, "redcode_scene": 95, "redcode_blame": 160, "redcode_diagnosis": 77,
-    "mars_words": 49, "mars_operations": 70, "mars_core": 180, "koth_match": 27, "koth_hill": 93, "koth_replay": 69, "koth_protocol": 83,
+    "mars_words": 49, "mars_operations": 47, "mars_core": 120, "koth_match": 27, "koth_hill": 93, "koth_replay": 69, "koth_protocol": 83,
     "koth_text": 74, "sector_disk": 82, "hill_file": 100, "hill_bytes": 89, "hill_images": 112, "hill_store": 88, "hill_look": 60,
     "koth_session": 150, "koth_http": 42, "koth_service": 184, "koth_sockets": 95, "koth_options": 175, "koth_words": 228, "koth_json": 125,
     "koth_views": 105, "koth_page": 83, "koth_watch": 98, "koth_commands": 140, "koth_contests": 150, "koth_files": 45, "koth_keeping": 80,

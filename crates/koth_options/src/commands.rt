@@ -12,7 +12,7 @@ use crate::options::{FORMAT, HILL_FILE, KEPT_FILE, NAME, PLAIN, TABLE, WARRIOR};
 use clap::Command;
 use std::alloc::{AllocError, Global};
 
-/// The commands, in the order of the help and in three parts: those up to `fight`,
+/// The commands up to `fight`, in the order of the help.
 const TO_FIGHT: [Row; 3] = [
     Row {
         name: "asm",
@@ -68,7 +68,7 @@ const TO_FIGHT: [Row; 3] = [
     },
 ];
 
-/// those from `create` to `serve`,
+/// The commands from `create` to `serve`.
 const TO_SERVE: [Row; 4] = [
     Row {
         name: "create",
@@ -178,7 +178,7 @@ const TO_SERVE: [Row; 4] = [
     },
 ];
 
-/// and those from `audit` on.
+/// The commands from `audit` on.
 const TO_RESEED: [Row; 7] = [
     Row {
         name: "audit",
