@@ -159,12 +159,19 @@ const PAGES: [Step; 26] = steps! {
     Remove("page_imp.red");
 };
 
-/// The tables above.
-const TABLES: [&[Step]; 5] = [&MANY, &NONE, &FOLDER, &ROUNDS, &PAGES];
-
 #[test]
 fn a_warrior_against_many(rt: HostRuntime) {
-    for steps in &TABLES {
-        play(&rt, steps);
-    }
+    play(&rt, &MANY);
+    play(&rt, &NONE);
+}
+
+#[test]
+fn opponents_of_a_folder_and_rounds(rt: HostRuntime) {
+    play(&rt, &FOLDER);
+    play(&rt, &ROUNDS);
+}
+
+#[test]
+fn the_page_of_a_round(rt: HostRuntime) {
+    play(&rt, &PAGES);
 }

@@ -242,12 +242,13 @@ pub(crate) fn check_options(rt: &(impl Abort + Host), options: &str, field: &str
     drop(told);
 }
 
-/// The tables above.
-const TABLES: [&[Step]; 3] = [&FAULTS, &HELPS, &OUT_OF_RANGE];
+#[test]
+fn faults_of_the_words(rt: HostRuntime) {
+    play(&rt, &FAULTS);
+}
 
 #[test]
-fn words(rt: HostRuntime) {
-    for steps in &TABLES {
-        play(&rt, steps);
-    }
+fn helps_and_settings(rt: HostRuntime) {
+    play(&rt, &HELPS);
+    play(&rt, &OUT_OF_RANGE);
 }

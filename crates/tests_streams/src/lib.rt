@@ -8,6 +8,7 @@
 //! - `assembling`: sources that can't be read to their end, outputs that are full, and streams that are interrupted;
 //! - `logs`: the log of a service whose output takes no line for a while;
 //! - `words`: words that are no text, and a source that is typed;
+//! - `seeds`: the seed of a hill that random bytes give;
 //! - `command_growths`: commands with each growth of memory refused in turn, and `contest_growths`: contests and
 //!   explanations.
 //!
@@ -26,6 +27,8 @@ mod contest_growths;
 mod logs;
 #[cfg(test)]
 mod program;
+#[cfg(test)]
+mod seeds;
 #[cfg(test)]
 mod steps;
 #[cfg(test)]
