@@ -1,12 +1,12 @@
 -- Counts that stay until a counter or CURLINE changes: what is kept of them, and how a block begins by one.
 use Rattle.std.proofs.Common.{◌≡◌, ℕ, zero, suc, ◌+◌, ◌<◌, ◌≤◌, ◌^◌, Bool, true, false, nat_eq, if◌then◌else◌, List, [], ◌∷◌, length, map, drop, replicate, Option, Some, None, Result, Ok, Err, refl, sym, ap, ◌∙◌, arith, subst, inl, inr}
-use Rattle.{std.specs.{Prelude.{All, slice_set}}, std.proofs.lemmas.{Bool.{eqb-true}, Bool.Decides.nat_tests, List.Elements.{All-head, All-tail, All-replicate}}}
+use Rattle.{std.specs.{Prelude.{All, slice_set}}, std.proofs.lemmas.{Bool.{eq-eqb, eqb-false, eqb-true}, Bool.Decides.nat_tests, List.Elements.{All-head, All-tail, All-replicate}}}
 use Rattle.std.proofs.{lemmas.List.{get_or-replicate, get_or-set_same, get_or-set_other, length-map, length-replicate, length-set, map-set}}
 use Rattle.{redcode_names.specs.Gives.{◌>>=◌, Fails}, redcode_names.proofs.Unchanged.replaced-left, redcode_text.specs.Value.value_of, redcode_expand.specs.{declared.counts.Stamped.Stamped, Marks.{line_in, IsSameCount, ReadSame}}}
 use Rattle.redcode_expand.specs.Kept.{counter_before, kept_at, latest_of, AreKept, IsLatest, IsStamped}
 use Rattle.redcode_expand.specs.Walk.{Begun, ExpandedLine, WalkState, begun, begun_as, begun_of, copies_of, count_by, walk_begin, walk_state}
 use Rattle.redcode_expand.proofs.{Words.{AsmFault, RawSettings, Piece, SourceLine, labels_of, names_among, Counter, in_copies, in_copy, EquList, replaced, left_over, after_rounds, is_name, Names, for_labels, predefined, Word}}
-use Rattle.redcode_expand.proofs.{GoingOn.{nat_eq-other, nat_eq-same}, Marks.copies-word, PlacedNames.None≢Some}
+use Rattle.redcode_expand.proofs.Marks.{copies-word}
 use Rattle.redcode_text.specs.declared.vocabulary.Word.TheVariants as words
 
 -- ---- epochs
@@ -27,7 +27,7 @@ forgotten-all epoch xs latest is are =
     forgotten epoch xs are ∙ ap (λ (n : ℕ). replicate {A = Option ℕ} n None) room
 
 this-epoch : (epoch n : ℕ) → latest_of epoch (record { epoch = epoch; copies = n }) ≡ Some n
-this-epoch epoch n = ap (λ (b : Bool). if b then Some n else None) (nat_eq-same epoch)
+this-epoch epoch n = ap (λ (b : Bool). if b then Some n else None) (eq-eqb epoch epoch refl)
 
 pub learned : (epoch n place : ℕ) (xs : List Stamped) (latest : List (Option ℕ)) → map (latest_of epoch) xs ≡ latest
     → map (latest_of epoch) (slice_set xs place (record { epoch = epoch; copies = n })) ≡ slice_set latest place (Some n)
@@ -141,7 +141,7 @@ began-alone s cs line st new counter n word short is =
 latest-none : (s : RawSettings) (lines : List SourceLine) (cs : List Counter) (st : WalkState) (n : ℕ) → n ≡ length lines → AreKept s lines cs st (replicate n None)
 latest-none s lines cs st n is = record {
   room = length-replicate n None ∙ is;
-  kept = λ at m some read. absurd (None≢Some m (kept_at (replicate n None) at) (get_or-replicate n at None None (omega (arith, is, some))) read);
+  kept = λ at m some read. let none : kept_at (replicate n None) at ≡ None = get_or-replicate n at None None (omega (arith, is, some)) in absurd cc;
 }
 
 -- at first there is none
@@ -171,7 +171,7 @@ latest-at s lines cs st counts at place n m true same within some read is are =
     let same-count : n ≡ m = cc in
     rw here (subst (IsLatest s cs st (line_in lines at)) same-count is)
 latest-at s lines cs st counts at place n m false other within some read is are =
-    are.kept place m some (sym (get_or-set_other counts at place (Some n) None (nat_eq-other place at other)) ∙ read)
+    are.kept place m some (sym (get_or-set_other counts at place (Some n) None (eqb-false place at other)) ∙ read)
 
 -- one more is kept: that of a line which reads the same
 pub kept-with : (s : RawSettings) (lines : List SourceLine) (cs : List Counter) (st : WalkState) (counts after : List (Option ℕ)) (at count n : ℕ) → IsSameCount lines at count

@@ -1,8 +1,8 @@
 mod Words
 mod Unchanged
 mod PlacedNames
-mod GoingOn
 mod Marks
+mod GoingOn
 mod Rows
 mod RowsOfBlocks
 mod Cut

@@ -1,18 +1,21 @@
 -- Lines that are marked: the ROF that belongs to each FOR, found from the last line on.
 use Rattle.std.proofs.Common.{◌≡◌, ℕ, ◌+◌, ◌≤◌, ◌<◌, arith, true, false, Bool, not, ◌&&◌, List, [], ◌∷◌, length, drop, Option, Some, Result, Ok, refl, sym, ap, subst, ◌∙◌, nat_eq}
-use Rattle.{std.specs.Prelude.{if◌then◌else◌, slice_set}, std.proofs.{lemmas.Bool.{eqb-true, or_parts}, lemmas.List.{drop_all, drop_more, get_or-set_same, get_or-set_other, length-set}}}
-use Rattle.{redcode_names.specs.Gives.◌>>=◌, redcode_expand.specs.Cut.with_cut}
+use Rattle.{std.specs.Prelude.{if◌then◌else◌, slice_set}, std.proofs.{lemmas.Bool.{and_parts, eqb-false, eqb-true, or_parts}, lemmas.List.{drop_all, drop_more, get_or-set_same, get_or-set_other, length-set}}}
 use Rattle.redcode_expand.specs.{declared.marked_lines.Mark.Mark, Marks.{edge_of, is_bare, is_long, line_in, mark_at, no_mark, AreFromRof, AreMarked, IsMarked, IsNextRof, IsSameCount}}
-use Rattle.redcode_expand.specs.Rest.{OpenBlock, behind_copy, counters_of, rest_of, steps_left, AreOpen, GoesOn}
-use Rattle.redcode_expand.specs.{Walk.{Begun, WalkState, begun, begun_as, begun_of, closed, walk}, declared.marked_lines.Edge.Edge}
-use Rattle.redcode_expand.proofs.Words.{AsmFault, RawSettings, Piece, SourceLine, Blocks, Parsed, parsed, with_body, behind_by, behind_for, has_tokens, labels_of, Counter, in_copy, in_copies, Word, has_and}
-use Rattle.redcode_expand.proofs.GoingOn.{begun_rest, for-here, rest-begun, rof-here, nat_eq-other}
+use Rattle.redcode_expand.specs.{Walk.{WalkState, closed}, declared.marked_lines.Edge.Edge}
+use Rattle.redcode_expand.proofs.Words.{RawSettings, Piece, SourceLine, Blocks, Parsed, parsed, with_body, behind_by, behind_for, behind_rof, has_tokens, labels_of, Counter, in_copy, in_copies, Word, has_and}
 use Rattle.redcode_text.specs.declared.vocabulary.Word.TheVariants as words
 
 -- ---- a line and its edge
 
 pub line-drop : (ls : List SourceLine) (at : ℕ) → at < length ls → drop at ls ≡ line_in ls at ∷ drop (at + 1) ls
 line-drop ls at some = drop_more ls at _ some
+
+pub for-here : (ls : List SourceLine) (at : ℕ) → at < length ls → (line_in ls at).word ≡ Some words.For → parsed (drop at ls) ≡ behind_for (line_in ls at) (parsed (drop (at + 1) ls))
+for-here ls at some word = grind (arith, line-drop)
+
+pub rof-here : (ls : List SourceLine) (at : ℕ) → at < length ls → (line_in ls at).word ≡ Some words.Rof → parsed (drop at ls) ≡ behind_rof (line_in ls at) (parsed (drop (at + 1) ls))
+rof-here ls at some word = grind (arith, line-drop)
 
 pub line-first : (ls : List SourceLine) (at : ℕ) (line : SourceLine) → at < length ls → drop at ls ≡ line ∷ drop (at + 1) ls → line_in ls at ≡ line
 line-first ls at line some h = grind (arith, line-drop)
@@ -50,18 +53,18 @@ with-rof : (line : SourceLine) (body : Blocks) (rofs others : List (SourceLine �
 with-rof line body rofs others rof is = ap (λ (rs : List (SourceLine × Blocks)). (with_body line body rs).1) is
 
 -- the ROFs from the ROF of a FOR on
-ends-with : (ls : List SourceLine) (at rof : ℕ) → IsNextRof ls (at + 1) rof → rof < length ls
+pub ends-with : (ls : List SourceLine) (at rof : ℕ) → IsNextRof ls (at + 1) rof → rof < length ls
     → (parsed (drop (at + 1) ls)).1 ≡ (line_in ls rof, (parsed (drop (rof + 1) ls)).0) ∷ (parsed (drop (rof + 1) ls)).1
 ends-with ls at rof own there =
-    sym own.rofs ∙ ap (λ (p : Parsed). p.1) (rof-here ls rof (line_in ls rof) (line-drop ls rof there) (rof-word ls rof own.from there))
+    sym own.rofs ∙ ap (λ (p : Parsed). p.1) (rof-here ls rof there (rof-word ls rof own.from there))
 
 -- from a FOR on there are those after its ROF
-for-rofs : (ls : List SourceLine) (at rof : ℕ) → at < length ls → (line_in ls at).word ≡ Some words.For → IsNextRof ls (at + 1) rof → rof < length ls
+pub for-rofs : (ls : List SourceLine) (at rof : ℕ) → at < length ls → (line_in ls at).word ≡ Some words.For → IsNextRof ls (at + 1) rof → rof < length ls
     → (parsed (drop at ls)).1 ≡ (parsed (drop (rof + 1) ls)).1
 for-rofs ls at rof some word own there =
     let left : Parsed = parsed (drop (at + 1) ls) in
     let behind : Parsed = parsed (drop (rof + 1) ls) in
-    ap (λ (p : Parsed). p.1) (for-here ls at (line_in ls at) (line-drop ls at some) word)
+    ap (λ (p : Parsed). p.1) (for-here ls at some word)
     ∙ with-rof (line_in ls at) left.0 left.1 behind.1 (line_in ls rof, behind.0) (ends-with ls at rof own there)
 
 pub next-for : (ls : List SourceLine) (at rof next : ℕ) → at < length ls → (line_in ls at).word ≡ Some words.For → IsNextRof ls (at + 1) rof → rof < length ls → IsNextRof ls (rof + 1) next
@@ -76,7 +79,7 @@ next-open ls at rof some word own over =
     let left : Parsed = parsed (drop (at + 1) ls) in
     let none : left.1 ≡ [] = sym own.rofs ∙ ap (λ (xs : List SourceLine). (parsed xs).1) (drop_all rof ls over) in
     let here : (parsed (drop at ls)).1 ≡ [] =
-    ap (λ (p : Parsed). p.1) (for-here ls at line (line-drop ls at some) word) ∙ ap (λ (rs : List (SourceLine × Blocks)). (with_body line left.0 rs).1) none in
+    ap (λ (p : Parsed). p.1) (for-here ls at some word) ∙ ap (λ (rs : List (SourceLine × Blocks)). (with_body line left.0 rs).1) none in
     record { rofs = own.rofs ∙ none ∙ sym here; from = own.from; later = omega (arith, own.later) }
 
 -- ---- all lines
@@ -88,8 +91,8 @@ marked-by ls marks from at mark true same there later some are is =
     let set : mark_at (slice_set marks from mark) from ≡ mark = get_or-set_same marks from mark no_mark (omega (arith, are.room, there)) in
     rw here (subst (IsMarked ls from) (sym set) is)
 marked-by ls marks from at mark false other there later some are is =
-    let past : from + 1 ≤ at = omega (arith, later, nat_eq-other at from other) in
-    subst (IsMarked ls at) (sym (get_or-set_other marks from at mark no_mark (nat_eq-other at from other))) (are.marked at past some)
+    let past : from + 1 ≤ at = omega (arith, later, eqb-false at from other) in
+    subst (IsMarked ls at) (sym (get_or-set_other marks from at mark no_mark (eqb-false at from other))) (are.marked at past some)
 
 -- one more is marked
 pub one-marked : (ls : List SourceLine) (marks : List Mark) (from : ℕ) (mark : Mark) → from < length ls → AreMarked (from + 1) ls marks → IsMarked ls from mark
@@ -105,11 +108,8 @@ no-tokens : (ts : List Piece) → not (has_tokens ts) ≡ true → ts ≡ []
 no-tokens [] h = refl
 no-tokens (t ∷ ts) h = absurd cc
 
-pub both-first : (a b : Bool) → (a && b) ≡ true → a ≡ true
-both-first a b h = grind arith
-
 pub bare-front : (line : SourceLine) → is_bare line ≡ true → line.front ≡ []
-bare-front line is = no-tokens line.front (both-first (not (has_tokens line.front)) (not (has_and line.tokens)) is)
+bare-front line is = no-tokens line.front (and_parts (not (has_tokens line.front)) (not (has_and line.tokens)) is).0
 
 pub copies-word : (cs : List Counter) (line : SourceLine) → (in_copies cs line).word ≡ line.word
 copies-word [] line = refl
@@ -141,29 +141,3 @@ marked-is ls at rof line read mark some first is edge bare long own next same =
       rof = subst (IsNextRof ls (at + 1)) (sym own) next;
       count = same;
     }
-
--- ---- a block without a copy
-
-rest-empty : (s : RawSettings) (ls : List SourceLine) (bs : List OpenBlock) (line : SourceLine) (left behind : Parsed) (rof : SourceLine) (name : List ℕ) (st : WalkState) → left.1 ≡ (rof, behind.0) ∷ behind.1
-    → st.ended ≡ false → begun s (counters_of bs) line st ≡ Ok (begun_as st name 0) → closed s (counters_of bs) rof st ≡ Ok st
-    → rest_of s ls bs (behind_for line left) st ≡ rest_of s ls bs behind st
-rest-empty s ls bs line left behind rof name st ends going none closes =
-    rest-begun s ls bs line left (rof, behind.0) behind.1 st ends going
-    ∙ ap (λ (x : Result Begun AsmFault). x >>= begun_rest s ls bs line left.0 (rof, behind.0) behind.1) none
-    ∙ ap (λ (b : Bool). (if b then Ok st else closed s (counters_of bs) rof st) >>= walk s (counters_of bs) behind.0 >>= behind_copy s ls bs behind.1) going
-    ∙ ap (λ (x : Result WalkState AsmFault). x >>= walk s (counters_of bs) behind.0 >>= behind_copy s ls bs behind.1) closes
-
--- a block without a copy and without labels leaves the state as it is
-pub empty-goes-on : (s : RawSettings) (ls : List SourceLine) (bs : List OpenBlock) (at rof : ℕ) (name : List ℕ) (st : WalkState) → length ls ≤ 65536 → at < length ls → st.ended ≡ false
-    → (line_in ls at).word ≡ Some words.For → AreOpen ls bs (parsed (drop at ls)).1 → begun s (counters_of bs) (line_in ls at) st ≡ Ok (begun_as st name 0) → IsNextRof ls (at + 1) rof
-    → rof < length ls → is_bare (line_in ls rof) ≡ true
-    → GoesOn s ls (rest_of s ls bs (parsed (drop at ls)) st) (steps_left ls bs at st) bs (rof + 1) st
-empty-goes-on s ls bs at rof name st few some going word opened none own there bare =
-    let line : SourceLine = line_in ls at in
-    let left : Parsed = parsed (drop (at + 1) ls) in
-    let behind : Parsed = parsed (drop (rof + 1) ls) in
-    let closes : closed s (counters_of bs) (line_in ls rof) st ≡ Ok st = closed-bare s (counters_of bs) (line_in ls rof) st (rof-word ls rof own.from there) bare in
-    let rest : rest_of s ls bs (parsed (drop at ls)) st ≡ rest_of s ls bs behind st =
-    ap (λ (p : Parsed). rest_of s ls bs p st) (for-here ls at line (line-drop ls at some) word)
-    ∙ rest-empty s ls bs line left behind (line_in ls rof) name st (ends-with ls at rof own there) going none closes in
-    record { rest = ap with_cut (sym rest); opened = subst (AreOpen ls bs) (for-rofs ls at rof some word own there) opened; less = omega (arith, own.later, there) }

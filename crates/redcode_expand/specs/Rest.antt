@@ -2,7 +2,7 @@
 use Rattle.std.specs.Prelude.{◌≡◌, ℕ, suc, ◌+◌, ◌-◌, ◌*◌, ◌≤◌, ◌<◌, Bool, true, false, IsTrue, nat_eq, if◌then◌else◌, List, [], ◌∷◌, ◌++◌, length, drop, ⊤, Option, Some, None, Result, Ok, Err}
 use Rattle.{std.specs.{Option.option_map, Str.bytes_eq}, war_types.specs.{declared.fault.AsmFault.AsmFault, declared.settings.RawSettings.RawSettings, declared.fault.AsmKind.AsmKind}}
 use Rattle.{redcode_lines.specs.{Line.SourceLine, Block.{Blocks, Parsed, parsed}}, redcode_copies.specs.Counter.{Counter, counter_of}}
-use Rattle.{redcode_names.specs.{Gives.{◌>>=◌, fault_at}, Name.{LabelList, address_of}}, redcode_expand.specs.{Cut.with_cut, Walk.{WalkState, walk, copies, copied, closed, unmatched, until_end}}}
+use Rattle.{redcode_names.specs.{Gives.{◌>>=◌, Fails}, Name.{LabelList, address_of}}, redcode_expand.specs.{Cut.with_cut, Walk.{WalkState, walk, copies, copied, closed, unmatched, until_end}}}
 
 -- a block whose copies are being written
 pub record OpenBlock : Type 0 where
@@ -61,30 +61,17 @@ counts (b ∷ bs) st = if nat_eq st.counted b.start then 0 else 1
 abbrev pub steps_left : List SourceLine → List OpenBlock → ℕ → WalkState → ℕ
 steps_left lines blocks at st = (4096 - st.counted) * 131074 + (counts blocks st * 65537 + (length lines - at))
 
--- how the walk goes on within these blocks at the line of this index: what is left is what was due, both cut, and fewer steps than these
--- are left
-pub record GoesOn (s : RawSettings) (lines : List SourceLine) (due : Result WalkState AsmFault) (steps : ℕ) (blocks : List OpenBlock) (at : ℕ) (st : WalkState) : Type 0 where
-  pub rest : with_cut (rest_of s lines blocks (parsed (drop at lines)) st) ≡ with_cut due
+-- how the walk goes on, from the line of index `from` within the blocks `old` and the state `was`, to that of index `at`: what is left is what was due, both
+-- cut, and fewer steps are left
+pub record GoesOn (s : RawSettings) (lines : List SourceLine) (old : List OpenBlock) (from : ℕ) (was : WalkState) (blocks : List OpenBlock) (at : ℕ) (st : WalkState) : Type 0 where
+  pub rest : with_cut (rest_of s lines blocks (parsed (drop at lines)) st) ≡ with_cut (rest_of s lines old (parsed (drop from lines)) was)
   pub opened : AreOpen lines blocks (parsed (drop at lines)).1
-  pub less : steps_left lines blocks at st < steps
+  pub less : steps_left lines blocks at st < steps_left lines old from was
 
--- a FOR that is said to have no ROF has none; any other has one or stands within a block
-abbrev pub IsUnmatched : Bool → List OpenBlock → List (SourceLine × Blocks) → Type 0
-IsUnmatched true blocks rofs = rofs ≡ []
-IsUnmatched false blocks [] = has_none blocks ≡ false
-IsUnmatched false blocks (rof ∷ rofs) = ⊤
-
--- what is left after the ROF of a block without a copy, whose FOR has this line number
-abbrev pub rest_behind : RawSettings → List SourceLine → List OpenBlock → ℕ → List (SourceLine × Blocks) → WalkState → Result WalkState AsmFault
-rest_behind s lines blocks number [] st = Err (fault_at number AsmKind.UnmatchedFor)
-rest_behind s lines blocks number (rof ∷ rofs) st = closed s (counters_of blocks) rof.0 st >>= rest_of s lines blocks (rof.1, rofs)
-
--- how the walk goes on after the ROF of a block whose body begins at the line of this index
-pub record Passes (s : RawSettings) (lines : List SourceLine) (due : Result WalkState AsmFault) (blocks : List OpenBlock) (body : ℕ) (old : WalkState) (at : ℕ) (st : WalkState) : Type 0 where
-  pub rest : rest_of s lines blocks (parsed (drop at lines)) st ≡ due
-  pub rofs : (parsed (drop at lines)).1 ≡ drop 1 (parsed (drop body lines)).1
-  pub later : body ≤ at
-  pub counted : st.counted ≡ old.counted
+-- it goes on so at the line of the index that was found, or the refusal is due
+abbrev pub Continues : RawSettings → List SourceLine → List OpenBlock → ℕ → WalkState → List OpenBlock → WalkState → Result ℕ AsmFault → Type 0
+Continues s lines old from was blocks st (Ok at) = GoesOn s lines old from was blocks at st
+Continues s lines old from was blocks st (Err fault) = Fails fault (rest_of s lines old (parsed (drop from lines)) was)
 
 -- the counters of blocks, the outermost block first
 abbrev pub counters_in : List OpenBlock → List Counter

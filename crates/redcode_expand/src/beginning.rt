@@ -96,7 +96,7 @@ pub(crate) fn begun_at<'s, A: Allocator + Copy>(
         let begun = walk.begin(settings, blocks, line)?;
         return Ok(begun);
     }
-    let count = lines.count(at);
+    let count = lines.mark(at).count;
     if let Some(copies) = counts.at(count) {
         return Ok(begun_with(line.front, copies));
     }

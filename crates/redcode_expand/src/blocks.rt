@@ -1,16 +1,15 @@
 //! The lines of a source written out, copy by copy.
 
-ghost use Rattle.std.specs.Prelude.{◌≡◌, ◌+◌, ◌<◌, ◌≤◌, ◌∷◌, [], false, Some, drop, length, IfOk, IfSome, MatchResult, OnOk};
+ghost use Rattle.std.specs.Prelude.{◌≡◌, ◌+◌, ◌<◌, ◌≤◌, [], false, Some, drop, length, IfOk, OnOk};
 ghost use Rattle.{redcode_text.specs.declared.vocabulary.Word.TheVariants.{For, Rof}, redcode_lines.specs.Block.parsed};
-ghost use Rattle.{redcode_names.specs.Gives.{Gives, Fails, fault_at}, redcode_expand.specs.Rest.{counters_of, rest_of, rest_behind, steps_left, AreOpen, GoesOn, IsUnmatched, Passes}};
-ghost use Rattle.redcode_expand.specs.{Walk.{walk_all, walk_begin, begun, closed}, Kept.AreKept, Cut.{cut_walk, with_cut}, Marks.line_in, Budget.{most_lines, steps_of}};
+ghost use Rattle.{redcode_names.specs.Gives.Gives, redcode_expand.specs.Rest.{counters_of, AreOpen, Continues}};
+ghost use Rattle.redcode_expand.specs.{Walk.{walk_all, walk_begin, closed}, Kept.AreKept, Cut.{cut_walk, with_cut}, Marks.line_in, Budget.{most_lines, steps_of}};
 
 use crate::beginning::begun_at;
 use crate::counts::Counts;
 use crate::marked_lines::{Edge, MarkedLines};
 use crate::open_block::OpenBlock;
 use crate::open_blocks::OpenBlocks;
-use crate::passing::{behind_empty, close, is_unmatched, pass, unmatched_for};
 use crate::steps::Steps;
 use crate::walk::Walk;
 use bumpalo::Bump;
@@ -37,67 +36,20 @@ pub(crate) fn walk_all<'s, A: Allocator + Copy>(
 {
     let mut counts = Counts::new(alloc, lines.len())?;
     let lines = MarkedLines::new(alloc, lines)?;
-    walk_marked(
-        alloc,
-        region,
+    let mut blocks = OpenBlocks::new(alloc, region, hash);
+    let mut walk = Walk::new(alloc, hash);
+    match walk_lines(
         settings,
-        hash,
+        &mut walk,
+        &mut blocks,
         &mut counts,
         &lines,
         most,
         steps,
-    )
-}
-
-/// Walks over all lines, with no count kept.
-fn walk_marked<'s, A: Allocator + Copy>(
-    alloc: A,
-    region: &'s Bump<A>,
-    settings: &Settings,
-    hash: NameHash,
-    counts: &mut Counts<A>,
-    lines: &MarkedLines<'_, 's, A>,
-    most: u64,
-    steps: &mut Steps,
-) -> Result<Walk<'s, A>, AsmFault>
-    requires few { length lines.now ≤ 65536 }
-    requires some { 0 < most }
-    requires kept { AreKept settings.now lines.now [] walk_begin counts.old }
-    ensures steps { steps.old ≤ steps.new + steps_of most most_lines }
-    ensures each { IfOk result (λ walk. walk.counted + steps.new ≤ steps.old) }
-    ensures walk { Gives cut_walk result (with_cut (walk_all settings.now (parsed lines.now) walk_begin)) }
-{
-    let mut walk = Walk::new(alloc, hash);
-    match walk_begun(
-        alloc, region, settings, hash, &mut walk, counts, lines, most, steps,
     ) {
         Ok(()) => Ok(walk),
         Err(fault) => Err(fault),
     }
-}
-
-/// Walks over all lines, with no count kept and none walked over.
-fn walk_begun<'s, A: Allocator + Copy>(
-    alloc: A,
-    region: &'s Bump<A>,
-    settings: &Settings,
-    hash: NameHash,
-    walk: &mut Walk<'s, A>,
-    counts: &mut Counts<A>,
-    lines: &MarkedLines<'_, 's, A>,
-    most: u64,
-    steps: &mut Steps,
-) -> Result<(), AsmFault>
-    requires few { length lines.now ≤ 65536 }
-    requires some { 0 < most }
-    requires begin { walk.old ≡ walk_begin }
-    requires kept { AreKept settings.now lines.now [] walk_begin counts.old }
-    ensures steps { steps.old ≤ steps.new + steps_of most most_lines }
-    ensures each { OnOk result (walk.new.counted + steps.new ≤ steps.old) }
-    ensures walk { Gives (λ _. cut_walk walk.new) result (with_cut (walk_all settings.now (parsed lines.now) walk_begin)) }
-{
-    let mut blocks = OpenBlocks::new(alloc, region, hash);
-    walk_lines(settings, walk, &mut blocks, counts, lines, most, steps)
 }
 
 /// Walks over all lines, with no count kept and no block begun.
@@ -144,13 +96,11 @@ fn step<'s, A: Allocator + Copy>(
     requires goes_on { walk.old.ended ≡ false }
     requires opened { AreOpen lines.now blocks.old (parsed (drop at lines.now)).1 }
     requires kept { AreKept settings.now lines.now (counters_of blocks.old) walk.old counts.old }
-    ensures goes_on { let due = rest_of settings.now lines.now blocks.old (parsed (drop at lines.now)) walk.old in
-        let steps = steps_left lines.now blocks.old at walk.old in
-        MatchResult result (λ next. GoesOn settings.now lines.now due steps blocks.new next walk.new) (λ fault. Fails fault due) }
+    ensures goes_on { Continues settings.now lines.now blocks.old at walk.old blocks.new walk.new result }
     ensures kept { OnOk result (AreKept settings.now lines.now (counters_of blocks.new) walk.new counts.new) }
     ensures counted { OnOk result (walk.new.counted ≤ walk.old.counted + 1) }
 {
-    match lines.edge(at) {
+    match lines.mark(at).edge {
         Edge::For => begin(settings, walk, blocks, counts, lines, at),
         Edge::Rof => {
             Counts::rise(counts)?;
@@ -177,25 +127,23 @@ fn begin<'s, A: Allocator + Copy>(
     requires some { at < length lines.now }
     requires goes_on { walk.old.ended ≡ false }
     requires opened { AreOpen lines.now blocks.old (parsed (drop at lines.now)).1 }
-    requires line { drop at lines.now ≡ line_in lines.now at ∷ drop (at + 1) lines.now }
     requires word { (line_in lines.now at).word ≡ Some For }
     requires kept { AreKept settings.now lines.now (counters_of blocks.old) walk.old counts.old }
-    ensures goes_on { let due = rest_of settings.now lines.now blocks.old (parsed (drop at lines.now)) walk.old in
-        let steps = steps_left lines.now blocks.old at walk.old in
-        MatchResult result (λ next. GoesOn settings.now lines.now due steps blocks.new next walk.new) (λ fault. Fails fault due) }
+    ensures goes_on { Continues settings.now lines.now blocks.old at walk.old blocks.new walk.new result }
     ensures kept { OnOk result (AreKept settings.now lines.now (counters_of blocks.new) walk.new counts.new) }
     ensures counted { OnOk result (walk.new.counted ≤ walk.old.counted + 1) }
 {
-    if let Some(next) = behind_empty(settings, walk, blocks, counts, lines, at) {
-        return Ok(next);
-    }
-    if is_unmatched(blocks, lines, at) {
-        return Err(unmatched_for(lines.number(at)));
+    let rof = lines.mark(at).rof;
+    if rof >= lines.len() {
+        return Err(AsmFault {
+            line: lines.number(at),
+            kind: AsmKind::UnmatchedFor,
+        });
     }
     let begun = begun_at(settings, walk, blocks, counts, lines, at)?;
     if begun.copies == 0 {
-        let next = pass(settings, walk, blocks, lines, at)?;
-        return Ok(next);
+        close(settings, walk, blocks, lines, rof)?;
+        return Ok(rof + 1);
     }
     counts.rise()?;
     let start = walk.counted();
@@ -218,11 +166,8 @@ fn end_copy<'s, A: Allocator + Copy>(
     requires some { at < length lines.now }
     requires goes_on { walk.old.ended ≡ false }
     requires opened { AreOpen lines.now blocks.old (parsed (drop at lines.now)).1 }
-    requires line { drop at lines.now ≡ line_in lines.now at ∷ drop (at + 1) lines.now }
     requires word { (line_in lines.now at).word ≡ Some Rof }
-    ensures goes_on { let due = rest_of settings.now lines.now blocks.old (parsed (drop at lines.now)) walk.old in
-        let steps = steps_left lines.now blocks.old at walk.old in
-        MatchResult result (λ next. GoesOn settings.now lines.now due steps blocks.new next walk.new) (λ fault. Fails fault due) }
+    ensures goes_on { Continues settings.now lines.now blocks.old at walk.old blocks.new walk.new result }
     ensures counted { OnOk result (walk.new.counted ≤ walk.old.counted + 1) }
 {
     let Some(block) = blocks.pop() else {
@@ -239,4 +184,24 @@ fn end_copy<'s, A: Allocator + Copy>(
     let body = block.body;
     blocks.push(block.next_copy(walk.counted()))?;
     Ok(body)
+}
+
+/// Walks over the `ROF` of a block.
+fn close<'s, A: Allocator + Copy>(
+    settings: &Settings,
+    walk: &mut Walk<'s, A>,
+    blocks: &OpenBlocks<'s, A>,
+    lines: &MarkedLines<'_, 's, A>,
+    at: usize,
+) -> Result<(), AsmFault>
+    requires some { at < length lines.now }
+    requires word { (line_in lines.now at).word ≡ Some Rof }
+    ensures closed { Gives (λ _. walk.new) result (closed settings.now (counters_of blocks.now) (line_in lines.now at) walk.old) }
+    ensures before { walk.new.before ≡ walk.old.before }
+    ensures counted { walk.new.counted ≡ walk.old.counted }
+{
+    if lines.mark(at).is_bare {
+        return Ok(());
+    }
+    walk.close(settings, blocks, lines.reading(at))
 }

@@ -4,7 +4,7 @@
 //! say whether there is anything to read.
 
 ghost use Rattle.std.specs.Prelude.{◌≡◌, ◌+◌, ◌<◌, ◌∷◌, drop, length, IfOk};
-ghost use Rattle.{redcode_lines.specs.Views.line_read, redcode_expand.specs.Marks.{edge_of, has_operands, is_bare, is_long, line_in, shortened, AreMarked, IsNextRof, IsSameCount}};
+ghost use Rattle.{redcode_lines.specs.Views.line_read, redcode_expand.specs.Marks.{edge_of, has_operands, is_bare, is_long, line_in, shortened, AreMarked, IsMarked, IsNextRof}};
 
 use crate::entry::MOST_TOKENS;
 use crate::same_counts::SameCounts;
@@ -120,30 +120,6 @@ impl<'l, 's, A: Allocator + Copy> MarkedLines<'l, 's, A> {
         line_at(self.lines, at).number()
     }
 
-    /// What it is to a block.
-    pub(crate) fn edge(&self, at: usize) -> Edge
-        requires { at < length self.now }
-        ensures { result ≡ edge_of (line_in self.now at).word }
-    {
-        self.marks[at].edge
-    }
-
-    /// Whether nothing stands before its word, and no `&` after it.
-    pub(crate) fn is_bare(&self, at: usize) -> bool
-        requires { at < length self.now }
-        ensures { result ≡ is_bare (line_in self.now at) }
-    {
-        self.marks[at].is_bare
-    }
-
-    /// The index of the `ROF` that matches the `FOR` at index `at`; `len()` or more if there is none.
-    pub(crate) fn rof_behind(&self, at: usize) -> usize
-        requires { at < length self.now }
-        ensures { IsNextRof self.now (at + 1) result }
-    {
-        self.marks[at].rof
-    }
-
     /// The steps of a visit within this number of blocks: its tokens are read. If an `&` is among them, they are read again for each block,
     /// and each join copies a name, which may have all bytes of the line.
     pub(crate) fn steps(&self, at: usize, blocks: usize) -> u64
@@ -161,12 +137,12 @@ impl<'l, 's, A: Allocator + Copy> MarkedLines<'l, 's, A> {
         1u64.saturating_add(tokens.saturating_mul(times.saturating_add(1)))
     }
 
-    /// The index of a line whose count reads the same as that of the `FOR` at index `at`.
-    pub(crate) fn count(&self, at: usize) -> usize
+    /// What the walk has to know of it.
+    pub(crate) fn mark(&self, at: usize) -> Mark
         requires { at < length self.now }
-        ensures { IsSameCount self.now at result }
+        ensures { IsMarked self.now at result }
     {
-        self.marks[at].count
+        self.marks[at]
     }
 }
 

@@ -19,7 +19,7 @@ returns-in-Some-clause-begun g c =
     let line = line_in c.args.lines.now c.args.at in
     let st = c.args.walk.now in
     let n = c.in-Some.copies in
-    let is = latest-count s c.args.lines.now cs st c.args.counts.now c.args.at c.count-count.result n c.count-count.ensures (sym c.at.ensures ∙ c.in-Some.is) c.requires.kept in
+    let is = latest-count s c.args.lines.now cs st c.args.counts.now c.args.at c.mark-count.result.count n c.mark-count.ensures.count (sym c.at.ensures ∙ c.in-Some.is) c.requires.kept in
     let short : length line.front ≤ 1 =
     omega (arith, ap (λ (l : SourceLine). length l.front) c.reading-line.ensures.line, length-map c.reading-line.result.front.now piece_of, c.if-line-gt1.false) in
     begun-latest s cs line st n c.requires.word short is.count
@@ -35,6 +35,6 @@ returns-clause-kept g c =
     let b = c.in_ok-begun-2.begun in
     let short : length line.front ≤ 1 =
     omega (arith, ap (λ (l : SourceLine). length l.front) c.reading-line.ensures.line, length-map c.reading-line.result.front.now piece_of, c.if-line-gt1.false) in
-    kept-learned s c.args.lines.now cs c.args.walk.now c.begin-2.new.self c.args.counts.now c.learn.new.self c.args.at c.count-count.result b.copies b.counter.now c.requires.word short
-    (ap (λ (l : SourceLine). begun s cs l c.args.walk.now) (sym c.reading-line.ensures.line) ∙ c.in_ok-begun-2.ensures.begun) c.in_ok-begun-2.ensures.few c.count-count.ensures
+    kept-learned s c.args.lines.now cs c.args.walk.now c.begin-2.new.self c.args.counts.now c.learn.new.self c.args.at c.mark-count.result.count b.copies b.counter.now c.requires.word short
+    (ap (λ (l : SourceLine). begun s cs l c.args.walk.now) (sym c.reading-line.ensures.line) ∙ c.in_ok-begun-2.ensures.begun) c.in_ok-begun-2.ensures.few c.mark-count.ensures.count
     c.requires.kept c.learn.ensures

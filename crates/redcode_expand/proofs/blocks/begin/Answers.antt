@@ -1,30 +1,25 @@
-use Rattle.{std.proofs.Common.{arith, ◌-◌, ◌+◌, subst, ℕ, Bool, List, ◌∷◌, sym, ap, ◌∙◌, drop}, redcode_lines.specs.Block.parsed, redcode_copies.specs.Counter.counter_of}
-use Rattle.{redcode_expand.specs.{Marks.line_in, Rest.{OpenBlock, counters_of, open_block, rest_of, steps_left, GoesOn, IsUnmatched}}, redcode_expand.proofs.{GoingOn.block-goes-on, Latest.{kept-later, kept-same}}}
+use Rattle.{std.proofs.Common.{arith, ◌-◌, ◌+◌, subst, ℕ, List, ◌∷◌, sym, ap, ◌∙◌}, redcode_copies.specs.Counter.counter_of, redcode_expand.specs.{Marks.line_in, Rest.{OpenBlock, counters_of, open_block, GoesOn}}}
+use Rattle.redcode_expand.proofs.{AddedEqus.closed-equs, GoingOn.{begun-fails, block-goes-on, for-fails, passed-goes-on, rest-passed}, Latest.{kept-later, kept-same}, Marks.rof-word}
 use Rattle.redcode_expand.proofs.blocks.begin.Goals as goal
 
 pub returns-clause-goes_on : goal.returns-clause-goes_on
 returns-clause-goes_on g c =
     let s = c.args.settings.now in
     let lines = c.args.lines.now in
-    let matched = subst (λ (b : Bool). IsUnmatched b c.args.blocks.now (parsed (drop (c.args.at + 1) lines)).1) c.if-is_unmatched.false c.is_unmatched.ensures in
     let name = c.in_ok-begun.begun.counter.now in
     let n = c.in_ok-begun.begun.copies in
     let pushed = c.in_ok-push.ensures ∙ ap (λ (b : OpenBlock). b ∷ c.args.blocks.now) c.new.ensures
     ∙ ap (λ (k : ℕ). open_block c.number-number.result (counter_of name 1) (n - 1) k (c.args.at + 1) ∷ c.args.blocks.now) c.counted-start.ensures
     ∙ ap (λ (k : ℕ). open_block k (counter_of name 1) (n - 1) c.begun_at.new.walk.counted (c.args.at + 1) ∷ c.args.blocks.now) c.number-number.ensures in
-    subst (λ (bs : List OpenBlock). GoesOn s lines (rest_of s lines c.args.blocks.now (parsed (drop c.args.at lines)) c.args.walk.now) (steps_left lines c.args.blocks.now c.args.at c.args.walk.now) bs (c.args.at + 1) c.begun_at.new.walk)
-    (sym pushed)
-    (block-goes-on s lines c.args.blocks.now c.args.at (line_in c.args.lines.now c.args.at) c.args.walk.now c.begun_at.new.walk name n
-    c.requires.few c.requires.some c.requires.goes_on c.requires.line c.requires.word c.requires.opened matched c.in_ok-begun.ensures.begun c.if-begun-eq0.false
-    c.in_ok-begun.ensures.goes_on c.in_ok-begun.ensures.counted)
-
-pub pass-requires-clause-goes_on : goal.pass-requires-clause-goes_on
-pass-requires-clause-goes_on g c = c.in_ok-begun.ensures.goes_on ∙ c.requires.goes_on
+    subst (λ (bs : List OpenBlock). GoesOn s lines c.args.blocks.now c.args.at c.args.walk.now bs (c.args.at + 1) c.begun_at.new.walk) (sym pushed)
+    (block-goes-on s lines c.args.blocks.now c.args.at c.mark-rof.result.rof name c.args.walk.now c.begun_at.new.walk n c.requires.some c.requires.goes_on c.requires.word c.mark-rof.ensures.rof
+    (omega (arith, c.len.ensures, c.if-rof-len.false)) c.in_ok-begun.ensures.begun c.in_ok-begun.ensures.goes_on c.requires.opened c.if-begun-eq0.false c.in_ok-begun.ensures.counted)
 
 pub returns-then-begun-eq0-clause-kept : goal.returns-then-begun-eq0-clause-kept
 returns-then-begun-eq0-clause-kept g c =
-    kept-same c.args.settings.now c.args.lines.now (counters_of c.args.blocks.now) c.begun_at.new.walk c.pass.new.walk c.begun_at.new.counts c.in_ok-next.ensures.equs c.in_ok-next.ensures.before
-    c.in_ok-begun.ensures.kept
+    let cs = counters_of c.args.blocks.now in
+    let same = closed-equs c.args.settings.now cs (line_in c.args.lines.now c.mark-rof.result.rof) c.begun_at.new.walk c.close.new.walk c.in_ok-close.ensures.closed in
+    kept-same c.args.settings.now c.args.lines.now cs c.begun_at.new.walk c.close.new.walk c.begun_at.new.counts same c.in_ok-close.ensures.before c.in_ok-begun.ensures.kept
 
 pub returns-clause-kept : goal.returns-clause-kept
 returns-clause-kept g c =

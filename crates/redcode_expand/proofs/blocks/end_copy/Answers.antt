@@ -1,4 +1,4 @@
-use Rattle.{std.proofs.Common.{ap, arith}, redcode_expand.specs.{Marks.line_in, Rest.OpenBlock}, redcode_expand.proofs.GoingOn.{copied-few, next-copied}}
+use Rattle.{std.proofs.Common.{ap, arith}, redcode_expand.specs.Rest.OpenBlock, redcode_expand.proofs.GoingOn.{copied-few, next-copied}}
 use Rattle.redcode_expand.proofs.blocks.end_copy.Goals as goal
 
 pub returns-clause-goes_on : goal.returns-clause-goes_on
@@ -6,9 +6,9 @@ returns-clause-goes_on g c =
     let b = c.block.inside in
     let is = c.block.view_is in
     next-copied c.args.settings.now c.args.lines.now c.args.blocks.now c.pop.new.self c.push.new.self c.in-Some.block c.next_copy.result c.args.at b.number b.start b.left b.body
-    c.counted.result (line_in c.args.lines.now c.args.at) c.args.walk.now c.end_copy.new.self c.in-Some.ensures
+    c.counted.result c.args.walk.now c.end_copy.new.self c.in-Some.ensures
     (ap (λ (o : OpenBlock). o.number) is) (ap (λ (o : OpenBlock). o.start) is) (ap (λ (o : OpenBlock). o.left) is) (ap (λ (o : OpenBlock). o.body) is)
-    c.counted.ensures c.next_copy.ensures c.in_ok-push.ensures c.requires.few c.requires.goes_on c.requires.line c.requires.word c.requires.opened
+    c.counted.ensures c.next_copy.ensures c.in_ok-push.ensures c.requires.few c.requires.some c.requires.goes_on c.requires.word c.requires.opened
     c.in_ok-end_copy.ensures.copied c.in_ok-end_copy.ensures.goes_on c.in_ok-end_copy.ensures.counted c.if-block-eq0.false
 
 pub returns-clause-counted : goal.returns-clause-counted

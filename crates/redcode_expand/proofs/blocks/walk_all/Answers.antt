@@ -1,9 +1,14 @@
-use Rattle.{std.proofs.Common.{ap, sym, List, length, subst, ◌≤◌}, redcode_lines.specs.Line.SourceLine, redcode_expand.proofs.Latest.kept-none}
+use Rattle.std.proofs.Common.{ap, sym, List, length, subst, ◌≤◌}
+use Rattle.{redcode_lines.specs.{Block.parsed, Line.SourceLine}, redcode_names.specs.Gives.Fails, redcode_expand.specs.{Cut.with_cut, Walk.{walk_all, walk_begin}}, redcode_expand.proofs.Latest.{kept-none}}
 use Rattle.redcode_expand.proofs.blocks.walk_all.Goals as goal
 
-pub walk_marked-requires-clause-kept : goal.walk_marked-requires-clause-kept
-walk_marked-requires-clause-kept g c =
+pub walk_lines-requires-clause-kept : goal.walk_lines-requires-clause-kept
+walk_lines-requires-clause-kept g c =
     kept-none c.args.settings.now c.in_ok-lines.lines c.in_ok-counts.counts (length c.args.lines.now) (ap length (sym c.in_ok-lines.ensures)) c.in_ok-counts.ensures
 
-pub walk_marked-requires-clause-few : goal.walk_marked-requires-clause-few
-walk_marked-requires-clause-few g c = subst (λ (ls : List SourceLine). length ls ≤ 65536) (sym c.in_ok-lines.ensures) c.requires.few
+pub walk_lines-requires-clause-few : goal.walk_lines-requires-clause-few
+walk_lines-requires-clause-few g c = subst (λ (ls : List SourceLine). length ls ≤ 65536) (sym c.in_ok-lines.ensures) c.requires.few
+
+pub returns-clause-walk : goal.returns-clause-walk
+returns-clause-walk g c =
+    subst (λ (ls : List SourceLine). Fails c.in-Err.fault (with_cut (walk_all c.args.settings.now (parsed ls) walk_begin))) c.in_ok-lines.ensures c.in-Err.ensures.walk

@@ -1,6 +1,0 @@
-use Rattle.{std.proofs.Common.{sym, ◌∙◌}, redcode_expand.specs.{Marks.line_in, Rest.counters_of}, redcode_expand.proofs.Marks.closed-bare}
-use Rattle.redcode_expand.proofs.passing.close.Goals as goal
-
-pub returns-then-is_bare-clause-closed : goal.returns-then-is_bare-clause-closed
-returns-then-is_bare-clause-closed g c =
-    closed-bare c.args.settings.now (counters_of c.args.blocks.now) (line_in c.args.lines.now c.args.at) c.args.walk.now c.requires.word (sym c.is_bare.ensures ∙ c.if-is_bare.true)
