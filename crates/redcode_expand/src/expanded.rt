@@ -1,6 +1,6 @@
 //! The lines of a source written out, with the names of `EQU`s in their operands replaced.
 
-ghost use Rattle.std.specs.Prelude.{◌≡◌, ◌<◌, ◌≤◌, ◌+◌, ◌^◌, [], length, IfOk, Err};
+ghost use Rattle.std.specs.Prelude.{◌≡◌, ◌<◌, ◌≤◌, ◌+◌, ◌^◌, length, IfOk, Err};
 ghost use Rattle.{war_types.specs.declared.fault.AsmKind.TheVariants.SourceTooLong, redcode_lines.specs.Block.parsed, redcode_names.specs.Gives.{Gives, fault_at}};
 ghost use Rattle.redcode_expand.specs.{Laws.{AreCounted, BlocksAreWrittenOut, LabelsStandBehindInstructions}, Expansion.{expansion, address_of, all_replaced, line_replaced, with_names, expansion_of_blocks}, Cut.{shown, with_shown}, Budget.{most_lines, most_steps, steps_of}};
 
@@ -9,7 +9,7 @@ use crate::entry::{Entry, joined};
 use crate::steps::{Steps, line_steps};
 use bumpalo::Bump;
 use redcode_lines::{SourceLine, live_source, operands_of, source_lines};
-use redcode_names::{Equs, Labels, NameHash, Names, TOKEN_LIMIT, too_many, written};
+use redcode_names::{Labels, NameHash, Names, TOKEN_LIMIT, too_many, written};
 use std::alloc::Allocator;
 use std::marker::Model;
 use war_types::{AsmFault, AsmKind, Settings};
@@ -130,40 +130,25 @@ impl<'s, A: Allocator + Copy> Expanded<'s, A> {
     }
 }
 
-/// The lines of a source without EQUs: as they are, but for one that has too many operands.
-fn unchanged<'s, A: Allocator + Copy>(
-    entries: Vec<Entry<'s, A>, A>,
-) -> Result<Vec<Entry<'s, A>, A>, AsmFault>
-    ensures { Gives (λ lines. lines.items) result (all_replaced [] entries.entry.items) }
-{
-    for entry in entries.as_slice() {
-        let tokens = entry.tokens.as_slice();
-        if tokens.len() > TOKEN_LIMIT && operands_of(entry.line.kind, tokens).len() > TOKEN_LIMIT {
-            return Err(too_many(entry.line.source_line));
-        }
-    }
-    Ok(entries)
-}
-
 /// The most steps that are counted while the names of `EQU`s are replaced in all operands.
 const REPLACING: u64 = 1 << 32;
 
 /// Replaces the names of EQUs in the operands of all lines.
 fn replace_each<'s, A: Allocator + Copy>(
     alloc: A,
-    equs: &Equs<'s, A>,
+    names: &Names<'s, A>,
     entries: Vec<Entry<'s, A>, A>,
     steps: &mut Steps,
 ) -> Result<Vec<Entry<'s, A>, A>, AsmFault>
     ensures steps { steps.old ≤ steps.new + 2 ^ 32 }
     ensures less { steps.new ≤ steps.old }
-    ensures lines { Gives (λ lines. lines.items) result (all_replaced equs.now entries.entry.items) }
+    ensures lines { Gives (λ lines. lines.items) result (all_replaced names.now.equs entries.entry.items) }
 {
     let floor = steps.floor(REPLACING);
     let mut lines = Vec::with_capacity(alloc, entries.len())?;
     for entry in entries {
         let mut work = 0;
-        let line = replace_in(alloc, equs, entry, &mut work)?;
+        let line = replace_in(alloc, names, entry, &mut work)?;
         lines.push(line)?;
         steps.spend(work, floor)?;
     }
@@ -173,23 +158,23 @@ fn replace_each<'s, A: Allocator + Copy>(
 /// Replaces the names of EQUs in the operands of a line. One without such a name keeps its tokens as they are.
 fn replace_in<'s, A: Allocator + Copy>(
     alloc: A,
-    equs: &Equs<'s, A>,
+    names: &Names<'s, A>,
     entry: Entry<'s, A>,
     work: &mut u64,
 ) -> Result<Entry<'s, A>, AsmFault>
-    ensures { Gives (λ line. line) result (line_replaced equs.now entry.entry) }
+    ensures { Gives (λ line. line) result (line_replaced names.now.equs entry.entry) }
 {
     let line = entry.line;
     let tokens = entry.tokens.as_slice();
     let operands = operands_of(line.kind, tokens);
-    if !equs.are_among(operands) {
+    if names.has_no_equs() || !names.equs.are_among(operands) {
         if operands.len() > TOKEN_LIMIT {
             return Err(too_many(line.source_line));
         }
         return Ok(entry);
     }
     let before = &tokens[..tokens.len() - operands.len()];
-    let operands = written(alloc, equs, line.source_line, operands, work)?;
+    let operands = written(alloc, &names.equs, line.source_line, operands, work)?;
     let tokens = joined(alloc, before, operands.as_slice())?;
     Ok(Entry {
         line,
@@ -210,28 +195,11 @@ pub(crate) fn expanded_of<'s, A: Allocator + Copy>(
     ensures less { steps.new ≤ steps.old }
     ensures expanded { Gives (λ expanded. expanded) result (with_names names.entry entries.entry.items) }
 {
-    match names_replaced(alloc, &names, entries, steps) {
+    match replace_each(alloc, &names, entries, steps) {
         Ok(entries) => Ok(Expanded {
             entries,
             labels: names.labels,
         }),
         Err(fault) => Err(fault),
     }
-}
-
-/// The lines with the names of these `EQU`s replaced in their operands.
-fn names_replaced<'s, A: Allocator + Copy>(
-    alloc: A,
-    names: &Names<'s, A>,
-    entries: Vec<Entry<'s, A>, A>,
-    steps: &mut Steps,
-) -> Result<Vec<Entry<'s, A>, A>, AsmFault>
-    ensures steps { steps.old ≤ steps.new + 2 ^ 32 }
-    ensures less { steps.new ≤ steps.old }
-    ensures lines { Gives (λ lines. lines.items) result (all_replaced names.now.equs entries.entry.items) }
-{
-    if names.has_no_equs() {
-        return unchanged(entries);
-    }
-    replace_each(alloc, &names.equs, entries, steps)
 }

@@ -7,7 +7,7 @@ loop-entry-preserved g c =
     let gone = steps.1 in
     let was = c.loop-entry.invariant.1 in
     let short = ap length steps.0 in (
-      line-kept c.args.equs.now _ _ c.loop-entry.lines.items c.push.new.self.items c.in-Some.entry c.in_ok-line.line _
+      line-kept c.args.names.now.equs _ _ c.loop-entry.lines.items c.push.new.self.items c.in-Some.entry c.in_ok-line.line _
           steps.0 c.in_ok-line.ensures c.in_ok-push.ensures.items c.loop-entry.invariant.0,
       omega arith,
       c.spend.ensures.low,

@@ -4,7 +4,7 @@ use Rattle.redcode_expand.proofs.expanded.replace_each.Given as goal
 
 abbrev pub invariant-loop-entry : goal.invariant-loop-entry
 invariant-loop-entry g l =
-    (with_front l.lines.items (all_replaced l.equs (into_iter_items l.entry-iterator)) ≡ all_replaced l.equs l.fn.entries.items)
+    (with_front l.lines.items (all_replaced l.names.equs (into_iter_items l.entry-iterator)) ≡ all_replaced l.names.equs l.fn.entries.items)
     × (into_iter_len l.entry-iterator ≡ length (into_iter_items l.entry-iterator))
     × (l.floor ≤ l.steps)
     × (l.steps ≤ l.initial.steps)
