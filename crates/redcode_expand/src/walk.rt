@@ -1,7 +1,7 @@
 //! The walk over the lines of a source.
 
-ghost use Rattle.std.specs.Prelude.{◌≡◌, ◌+◌, ◌<◌, ◌≤◌, ◌^◌, [], length, true, Ok, IfOk, OnOk};
-ghost use Rattle.{redcode_text.specs.Tokens.pieces, redcode_lines.specs.{declared.line.LineKind.TheVariants.{End, Operation}, Line.labels_of, Views.line_read}};
+ghost use Rattle.std.specs.Prelude.{◌≡◌, ◌+◌, ◌<◌, ◌≤◌, ◌^◌, length, Ok, IfOk, OnOk};
+ghost use Rattle.{redcode_text.specs.Tokens.pieces, redcode_lines.specs.{Line.labels_of, Views.line_read}};
 ghost use Rattle.{redcode_names.specs.Gives.Gives, redcode_expand.specs.{Cut.{cut_walk, with_cut}, Expansion.finished, Rest.counters_of}};
 ghost use Rattle.redcode_expand.specs.Walk.{walk_begin, closed, copied, counted, labelled, with_line, placed, statement, lined, step, step_as, IsCopied};
 
@@ -187,47 +187,22 @@ impl<'s, A: Allocator + Copy> Walk<'s, A> {
         let word = line.word;
         let tokens = line.behind_labels();
         match word {
-            Some(Word::Operation(_) | Word::Pspace) => self.push_instruction(number, word, tokens),
+            Some(Word::Operation(_) | Word::Pspace) => {
+                self.push(number, LineKind::Operation, word, b"", tokens)?;
+                self.before += 1;
+                Ok(())
+            }
             Some(Word::Org) => self.push(number, LineKind::Org, word, b"", tokens),
-            Some(Word::End) => self.push_end(number, word, tokens),
+            Some(Word::End) => {
+                self.push(number, LineKind::End, word, b"", tokens)?;
+                self.ended = true;
+                Ok(())
+            }
             Some(Word::Pin) => self.push(number, LineKind::Other, word, b"", tokens),
             Some(Word::Equ | Word::For | Word::Rof) => Ok(()),
             None if tokens.is_empty() => Ok(()),
             None => self.push(number, LineKind::Other, None, b"", tokens),
         }
-    }
-
-    /// An instruction.
-    fn push_instruction(
-        &mut self,
-        number: u32,
-        word: Option<Word>,
-        tokens: &[Token<'s>],
-    ) -> Result<(), AsmFault>
-        requires before { self.old.before < self.old.counted }
-        requires lines { length self.old.lines < self.old.counted }
-        ensures pushed { Gives (λ _. cut_walk self.new) result (Ok (cut_walk (record (with_line number Operation word [] (pieces tokens.now) self.old) { before = self.old.before + 1 }))) }
-        ensures counted { self.new.counted ≡ self.old.counted }
-    {
-        self.push(number, LineKind::Operation, word, b"", tokens)?;
-        self.before += 1;
-        Ok(())
-    }
-
-    /// An `END`.
-    fn push_end(
-        &mut self,
-        number: u32,
-        word: Option<Word>,
-        tokens: &[Token<'s>],
-    ) -> Result<(), AsmFault>
-        requires { length self.old.lines < self.old.counted }
-        ensures pushed { Gives (λ _. cut_walk self.new) result (Ok (cut_walk (record (with_line number End word [] (pieces tokens.now) self.old) { ended = true }))) }
-        ensures counted { self.new.counted ≡ self.old.counted }
-    {
-        self.push(number, LineKind::End, word, b"", tokens)?;
-        self.ended = true;
-        Ok(())
     }
 
     /// A line that counts.
