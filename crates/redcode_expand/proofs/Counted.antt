@@ -4,7 +4,7 @@ use Rattle.{std.proofs.Common.{false, nat_lt, sym, ◌∙◌}, std.specs.Bool.�
 use Rattle.{war_types.specs.declared.fault.AsmKind.AsmKind, redcode_lines.specs.Source.live_lines, redcode_names.specs.Gives.{◌>>=◌, fault_at}}
 use Rattle.redcode_expand.specs.Walk.{ExpandedLine, WalkState, Begun, begun, begun_as, begun_of, closed, copied, copies, copies_of, counted, equated, labelled, step, step_by, until_end}
 use Rattle.redcode_expand.specs.{Walk.{walk, walk_all, walk_begin, with_line, with_other, with_word, worded}, Laws.{instruction_of, instructions, before_at, IsPlace, AreCounted, LabelsStandBehindInstructions}}
-use Rattle.redcode_expand.specs.Expansion.{Expansion, all_replaced, expansion, finished, line_replaced}
+use Rattle.redcode_expand.specs.Expansion.{all_replaced, expansion, finished, line_replaced}
 use Rattle.redcode_expand.proofs.Words.{AsmFault, RawSettings, Piece, SourceLine, labels_of, Blocks, Parsed, finish, one_line, block, open_for, parsed, source_lines, Counter, counter_of}
 use Rattle.redcode_expand.proofs.Words.{in_copies, LabelList, Names, all_defined, but_last, defined, equ_line, equ_named, for_labels, address_of, EquList, Word, LineKind, LineForm}
 use Rattle.redcode_lines.specs.declared.line.LineKind.TheVariants as lines

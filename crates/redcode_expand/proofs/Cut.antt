@@ -1,13 +1,13 @@
 -- A walk whose lines and EQUs are cut goes on in the same way: each step gives the same when it is cut again.
-use Rattle.std.proofs.Common.{◌≡◌, ◌⊎◌, ℕ, zero, suc, ◌+◌, ◌-◌, ◌<◌, ◌≤◌, Bool, true, false, nat_lt, nat_eq, if◌then◌else◌, List, [], ◌∷◌, ◌++◌, length, take, drop, map, Option, Some, None, Result, Ok, Err, refl, sym, ap, ◌∙◌, arith, inl, inr}
-use Rattle.std.proofs.{Common.{append-nil, length-append, lt-ltb}, lemmas.Bool.{cases_Bool, ltb-true, ltb-false}, lemmas.List.{map-append, take_all, drop_all, take_at, drop_at, take-take, take-map, drop-map, length-take-le}}
-use Rattle.{war_types.specs.declared.fault.AsmKind.AsmKind, redcode_lines.specs.Operand.operands_of, redcode_lines.specs.Line.is_bad}
-use Rattle.{redcode_names.specs.{Equ.replaced, Gives.{◌>>=◌, fault_at}, Cut.{cut_equs, cut_names}}, redcode_names.proofs.{Unchanged.tokens-same, Cut.{cut-twice, replaced-cut, all-cut, last_cut, last-cut, line-cut}}}
+use Rattle.std.proofs.Common.{◌≡◌, ℕ, zero, suc, ◌+◌, ◌≤◌, Bool, true, false, nat_lt, nat_eq, if◌then◌else◌, List, [], ◌∷◌, ◌++◌, length, take, drop, Option, Some, None, Result, Ok, Err, refl, sym, ap, ◌∙◌, arith, inl, inr}
+use Rattle.std.proofs.{Common.{append-nil, length-append}, lemmas.Bool.{cases_Bool, ltb-true, ltb-false}, lemmas.List.{map-append, take_all, drop_all, take_at, drop_at, take-take, take-map, drop-map, length-take-le}}
+use Rattle.{war_types.specs.declared.fault.AsmKind.AsmKind, redcode_lines.specs.Line.is_bad}
+use Rattle.{redcode_names.specs.{Gives.{◌>>=◌, fault_at}, Cut.{cut_equs, cut_names}}, redcode_names.proofs.{Cut.{cut-twice, replaced-cut, all-cut, last-cut, line-cut}}}
 use Rattle.redcode_text.specs.{declared.token.Token.Token, Tokens.{piece_of, pieces}}
 use Rattle.redcode_names.specs.Cut as names
 use Rattle.redcode_expand.specs.Walk.{ExpandedLine, WalkState, Begun, begun_as, begun_of, begun, closed, copied, copies, counted, equated, labelled, lined, placed, placed_by, step, step_by, until_end, unmatched, walk_state}
 use Rattle.redcode_expand.specs.Walk.{walk, with_line, with_word, worded, is_equ_word}
-use Rattle.redcode_expand.specs.{Expansion.{Expansion, all_replaced, finished, line_replaced}, Rest.{OpenBlock, counters_of, behind_copy, more_copies, rest_of}}
+use Rattle.redcode_expand.specs.{Rest.{OpenBlock, counters_of, behind_copy, more_copies, rest_of}}
 use Rattle.redcode_expand.specs.Cut.{first_bad, cut_tokens, cut_line, cut_lines, cut_walk, is_limited, kept_tokens, with_cut}
 use Rattle.redcode_expand.proofs.Words.{AsmFault, RawSettings, Walked, Piece, SourceLine, labels_of, behind_labels, Counter, counter_of, in_copies, Names, all_defined, equ_line, LineKind, LineForm, Word, Blocks, Parsed, parsed, finish, one_line, block, open_for}
 use Rattle.redcode_text.specs.declared.vocabulary.Word.TheVariants as words

@@ -3,7 +3,7 @@ use Rattle.std.proofs.Common.{◌≡◌, ◌≢◌, ℕ, suc, ◌+◌, ◌≤◌
 use Rattle.{std.specs.Prelude.if◌then◌else◌, std.proofs.{Common.{inl, inr}, lemmas.Bool.{cases_Bool, cond_both, eq-eqb, eqb-false, eqb-true}, lemmas.List.drop_all}}
 use Rattle.{redcode_names.specs.Gives.{◌>>=◌, fault_at, Fails}, war_types.specs.declared.fault.AsmKind.AsmKind, redcode_expand.specs.{declared.marked_lines.Edge.Edge, Cut.{cut_walk, with_cut}}}
 use Rattle.redcode_expand.specs.{Marks.{edge_of, line_in, IsNextRof}, Walk.{WalkState, Begun, walk, step, begun, closed, copied, copies, until_end, begun_as, IsCopied}}
-use Rattle.redcode_expand.specs.Rest.{OpenBlock, open_block, counters_of, more_copies, behind_copy, rest_of, counts, AreOpen, steps_left, GoesOn}
+use Rattle.redcode_expand.specs.Rest.{OpenBlock, open_block, counters_of, more_copies, behind_copy, rest_of, counts, AreOpen, GoesOn}
 use Rattle.redcode_expand.proofs.Words.{AsmFault, RawSettings, SourceLine, Blocks, Parsed, parsed, finish, one_line, block, open_for, Counter, counter_of}
 use Rattle.redcode_expand.proofs.{Cut.rest-after, Marks.{ends-with, for-here, for-rofs, line-drop, rof-here}}
 use Rattle.redcode_text.specs.declared.vocabulary.Word.TheVariants as words

@@ -1,10 +1,10 @@
 -- Counts that stay until a counter or CURLINE changes: what is kept of them, and how a block begins by one.
-use Rattle.std.proofs.Common.{◌≡◌, ℕ, zero, suc, ◌+◌, ◌<◌, ◌≤◌, ◌^◌, Bool, true, false, nat_eq, if◌then◌else◌, List, [], ◌∷◌, length, map, drop, replicate, Option, Some, None, Result, Ok, Err, refl, sym, ap, ◌∙◌, arith, subst, inl, inr}
+use Rattle.std.proofs.Common.{◌≡◌, ℕ, zero, suc, ◌+◌, ◌<◌, ◌≤◌, ◌^◌, Bool, true, false, nat_eq, if◌then◌else◌, List, [], ◌∷◌, length, map, drop, replicate, Option, Some, None, Result, Ok, Err, refl, sym, ap, ◌∙◌, arith, subst}
 use Rattle.{std.specs.{Prelude.{All, slice_set}}, std.proofs.lemmas.{Bool.{eq-eqb, eqb-false, eqb-true}, Bool.Decides.nat_tests, List.Elements.{All-head, All-tail, All-replicate}}}
 use Rattle.std.proofs.{lemmas.List.{get_or-replicate, get_or-set_same, get_or-set_other, length-map, length-replicate, length-set, map-set}}
-use Rattle.{redcode_names.specs.Gives.{◌>>=◌, Fails}, redcode_names.proofs.Unchanged.replaced-left, redcode_text.specs.Value.value_of, redcode_expand.specs.{declared.counts.Stamped.Stamped, Marks.{line_in, IsSameCount, ReadSame}}}
+use Rattle.{redcode_names.specs.Gives.{◌>>=◌}, redcode_names.proofs.Unchanged.replaced-left, redcode_text.specs.Value.value_of, redcode_expand.specs.{declared.counts.Stamped.Stamped, Marks.{line_in, IsSameCount, ReadSame}}}
 use Rattle.redcode_expand.specs.Kept.{counter_before, kept_at, latest_of, AreKept, IsLatest, IsStamped}
-use Rattle.redcode_expand.specs.Walk.{Begun, ExpandedLine, WalkState, begun, begun_as, begun_of, copies_of, count_by, walk_begin, walk_state}
+use Rattle.redcode_expand.specs.Walk.{Begun, WalkState, begun, begun_as, copies_of, count_by, walk_begin}
 use Rattle.redcode_expand.proofs.{Words.{AsmFault, RawSettings, Piece, SourceLine, labels_of, names_among, Counter, in_copies, in_copy, EquList, replaced, left_over, after_rounds, is_name, Names, for_labels, predefined, Word}}
 use Rattle.redcode_expand.proofs.Marks.{copies-word}
 use Rattle.redcode_text.specs.declared.vocabulary.Word.TheVariants as words

@@ -1,6 +1,6 @@
 -- Lines that are marked: the ROF that belongs to each FOR, found from the last line on.
-use Rattle.std.proofs.Common.{◌≡◌, ℕ, ◌+◌, ◌≤◌, ◌<◌, arith, true, false, Bool, not, ◌&&◌, List, [], ◌∷◌, length, drop, Option, Some, Result, Ok, refl, sym, ap, subst, ◌∙◌, nat_eq}
-use Rattle.{std.specs.Prelude.{if◌then◌else◌, slice_set}, std.proofs.{lemmas.Bool.{and_parts, eqb-false, eqb-true, or_parts}, lemmas.List.{drop_all, drop_more, get_or-set_same, get_or-set_other, length-set}}}
+use Rattle.std.proofs.Common.{◌≡◌, ℕ, ◌+◌, ◌≤◌, ◌<◌, arith, true, false, Bool, not, List, [], ◌∷◌, length, drop, Option, Some, Ok, refl, sym, ap, subst, ◌∙◌, nat_eq}
+use Rattle.{std.specs.Prelude.{slice_set}, std.proofs.{lemmas.Bool.{and_parts, eqb-false, eqb-true}, lemmas.List.{drop_all, drop_more, get_or-set_same, get_or-set_other, length-set}}}
 use Rattle.redcode_expand.specs.{declared.marked_lines.Mark.Mark, Marks.{edge_of, is_bare, is_long, line_in, mark_at, no_mark, AreFromRof, AreMarked, IsMarked, IsNextRof, IsSameCount}}
 use Rattle.redcode_expand.specs.{Walk.{WalkState, closed}, declared.marked_lines.Edge.Edge}
 use Rattle.redcode_expand.proofs.Words.{RawSettings, Piece, SourceLine, Blocks, Parsed, parsed, with_body, behind_by, behind_for, behind_rof, has_tokens, labels_of, Counter, in_copy, in_copies, Word, has_and}

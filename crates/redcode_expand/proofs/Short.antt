@@ -1,9 +1,9 @@
 -- A line with too many operands is walked over without those that can't matter: what is kept of it is the same.
-use Rattle.std.proofs.Common.{◌≡◌, ℕ, zero, suc, ◌+◌, ◌<◌, ◌≤◌, Bool, true, false, not, ◌&&◌, nat_lt, if◌then◌else◌, List, [], ◌∷◌, length, map, take, Option, Some, None, Result, Ok, Err, refl, sym, ap, ◌∙◌, subst, arith}
-use Rattle.std.proofs.{Common.{inl, inr, append-nil}, lemmas.Bool.{true≢false, and_parts, cases_Bool, ltb-true, or_parts}, lemmas.List.{map-append, take-map, take-take}}
+use Rattle.std.proofs.Common.{◌≡◌, ℕ, zero, suc, ◌+◌, ◌<◌, Bool, true, false, not, ◌&&◌, nat_lt, List, [], ◌∷◌, length, take, Option, Some, None, Ok, Err, refl, sym, ap, ◌∙◌, subst, arith}
+use Rattle.std.proofs.{Common.{inl, inr}, lemmas.Bool.{true≢false, and_parts, cases_Bool, ltb-true, or_parts}, lemmas.List.{map-append, take-map, take-take}}
 use Rattle.{redcode_copies.proofs.PlainLines.copies-plain, redcode_copies.specs.Plain.modifier_count, redcode_names.specs.Gives.{◌>>=◌, Fails}}
-use Rattle.redcode_expand.specs.Walk.{ExpandedLine, WalkState, counted, labelled, lined, step, step_as, walk_state, with_line, with_word, worded, is_equ_word}
-use Rattle.redcode_expand.specs.{Cut.{cut_line, cut_lines, cut_walk, is_limited, kept_tokens, with_cut}, Marks.{has_operands, is_long, shortened}}
+use Rattle.redcode_expand.specs.Walk.{ExpandedLine, WalkState, counted, labelled, step, step_as, with_line, with_word, worded, is_equ_word}
+use Rattle.redcode_expand.specs.{Cut.{cut_line, cut_walk, is_limited, kept_tokens, with_cut}, Marks.{has_operands, is_long, shortened}}
 use Rattle.redcode_expand.proofs.Words.{AsmFault, RawSettings, Walked, Piece, SourceLine, label_tokens, names_among, Counter, in_copies, changed_from, kept_count, number_by, plain_copy, Word, LineKind, LineForm, has_and}
 use Rattle.redcode_text.specs.declared.vocabulary.Word.TheVariants as words
 use Rattle.redcode_lines.specs.declared.line.LineKind.TheVariants as lines

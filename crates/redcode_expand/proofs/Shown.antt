@@ -1,11 +1,11 @@
 -- An expansion of a walk that is cut: the same is shown of it, and its addresses count instructions.
-use Rattle.std.proofs.Common.{◌≡◌, ℕ, zero, suc, ◌+◌, ◌<◌, ◌≤◌, nat_lt, List, [], ◌∷◌, ◌++◌, length, take, map, Option, Some, Result, Ok, Err, refl, sym, ap, ◌∙◌, subst, arith, inl, inr}
+use Rattle.std.proofs.Common.{◌≡◌, ℕ, zero, suc, ◌+◌, ◌<◌, ◌≤◌, nat_lt, List, [], ◌∷◌, ◌++◌, length, take, Result, Ok, Err, refl, sym, ap, ◌∙◌, subst, arith, inl, inr}
 use Rattle.std.{proofs.{lemmas.Bool.{cases_Bool, ltb-true, ltb-false}, lemmas.List.length-map, Common.lt-ltb}, specs.{Bool.⊤, Result.IfOk}}
 use Rattle.{war_types.specs.declared.fault.AsmKind.AsmKind, redcode_lines.specs.Operand.operands_of}
-use Rattle.{redcode_names.specs.{Equ.replaced, Gives.{◌>>=◌, fault_at, Fails, Gives}, Cut.cut_equs, Name.address_of}, redcode_names.proofs.Cut.replaced-cut}
-use Rattle.redcode_expand.specs.{Walk.{ExpandedLine, WalkState}, Expansion.{Expansion, all_replaced, before_operands, expansion, finished, line_replaced}, Laws.{instruction_of, instructions, before_at, IsPlace, AreCounted}}
+use Rattle.{redcode_names.specs.{Equ.replaced, Gives.{◌>>=◌, fault_at, Gives}, Cut.cut_equs, Name.address_of}, redcode_names.proofs.Cut.replaced-cut}
+use Rattle.redcode_expand.specs.{Walk.{ExpandedLine, WalkState}, Expansion.{Expansion, all_replaced, before_operands, expansion, finished, line_replaced}, Laws.{instruction_of, instructions, before_at, AreCounted}}
 use Rattle.redcode_expand.specs.Cut.{cut_line, cut_lines, cut_walk, kept_tokens, with_cut, shown, shown_line, shown_lines, shown_tokens, with_shown}
-use Rattle.redcode_expand.proofs.{Cut.{kept-short, kept-long, tokens-twice}, Counted.{Holds, expansion-counted}, Unchanged.line-same, Words.{AsmFault, RawSettings, Piece, SourceLine, LabelList, EquList, LineKind}}
+use Rattle.redcode_expand.proofs.{Cut.{kept-short, kept-long, tokens-twice}, Counted.{Holds, expansion-counted}, Unchanged.line-same, Words.{AsmFault, RawSettings, Piece, LabelList, EquList, LineKind}}
 use Rattle.redcode_lines.specs.declared.line.LineKind.TheVariants as lines
 
 -- ---- a line

@@ -1,6 +1,6 @@
 -- What the code keeps of a walk: no more of a line's tokens and of an EQU's body than shows what is wrong with them, and what an
 -- expansion shows of it. This is no part of the definition.
-use Rattle.std.specs.Prelude.{◌≡◌, Bool, true, false, if◌then◌else◌, List, [], ◌∷◌, ◌++◌, take, drop, map, Result, Ok}
+use Rattle.std.specs.Prelude.{Bool, true, false, if◌then◌else◌, List, [], ◌∷◌, ◌++◌, take, drop, map, Result, Ok}
 use Rattle.{war_types.specs.declared.fault.AsmFault.AsmFault, redcode_text.specs.Tokens.Piece, redcode_lines.specs.{declared.line.LineKind.LineKind, Line.is_bad}}
 use Rattle.redcode_names.specs.{Gives.◌>>=◌, Cut.cut_names}
 use Rattle.redcode_expand.specs.{Walk.{ExpandedLine, WalkState, walk_state}, Expansion.Expansion}

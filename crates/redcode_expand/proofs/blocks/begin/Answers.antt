@@ -1,5 +1,5 @@
 use Rattle.{std.proofs.Common.{arith, ◌-◌, ◌+◌, subst, ℕ, List, ◌∷◌, sym, ap, ◌∙◌}, redcode_copies.specs.Counter.counter_of, redcode_expand.specs.{Marks.line_in, Rest.{OpenBlock, counters_of, open_block, GoesOn}}}
-use Rattle.redcode_expand.proofs.{AddedEqus.closed-equs, GoingOn.{begun-fails, block-goes-on, for-fails, passed-goes-on, rest-passed}, Latest.{kept-later, kept-same}, Marks.rof-word}
+use Rattle.redcode_expand.proofs.{AddedEqus.closed-equs, GoingOn.{block-goes-on}, Latest.{kept-later, kept-same}}
 use Rattle.redcode_expand.proofs.blocks.begin.Goals as goal
 
 pub returns-clause-goes_on : goal.returns-clause-goes_on

@@ -1,4 +1,4 @@
-use Rattle.std.proofs.{Common.{List, [], ◌++◌, take, drop, if◌then◌else◌, ap, sym, ◌∙◌, arith}, lemmas.List.{length-map, map-append}}
+use Rattle.std.proofs.{Common.{List, [], ◌++◌, take, if◌then◌else◌, ap, sym, ◌∙◌, arith}, lemmas.List.{length-map, map-append}}
 use Rattle.{redcode_text.specs.{declared.token.Token.Token, Tokens.{Piece, piece_of, pieces}}, redcode_expand.specs.Cut.{first_bad, is_limited}, redcode_expand.proofs.Cut.{kept-parts, kept-short}}
 use Rattle.redcode_expand.proofs.entry.cut.Goals as goal
 
