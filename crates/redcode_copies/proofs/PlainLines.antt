@@ -1,10 +1,10 @@
--- For `plain_copy`: a line without an & within copies.
+-- For `plain_copy`: a line in which no counter follows an &, within copies.
 use Rattle.std.proofs.Common.{◌≡◌, ℕ, zero, suc, ◌+◌, ◌/◌, ◌%◌, ◌<◌, ◌≤◌, Bool, ◌||◌, ◌&&◌, true, false, if◌then◌else◌, List, [], ◌∷◌, ◌++◌, length, map, is_some, Option, Some, None, codes, refl, sym}
 use Rattle.{std.proofs.Common.{ap, subst, ◌∙◌, arith, inl, inr}, std.specs.{Prelude.{◌==◌, decimal}, Fmt.{digits, digits_onto, digit_glyph}, Str.bytes_eq}}
 use Rattle.{std.proofs.{lemmas.Bool.{cases_Bool, or_parts}, lemmas.Slice.Eq.bytes_eq-Decides}, redcode_text.specs.{Tokens.Piece, declared.vocabulary.Word.Word}}
 use Rattle.redcode_lines.specs.{declared.reading.LineForm.LineForm, Line.{SourceLine, has_and, has_text, is_name, is_name_token, taken_while, dropped_while}}
-use Rattle.redcode_copies.specs.Counter.{Counter, number_token, is_counter, is_join, joined, joined_from, kept, numbered, is_label, behind_operation, behind_word, without_word, copied_tokens, in_copy}
-use Rattle.redcode_copies.specs.{Counter.in_copies, Plain.{has_number, number_of, number_or_token, number_by, modifier_count, kept_behind, kept_count, changed_from, plain_copy}}
+use Rattle.redcode_copies.specs.Counter.{Counter, number_token, is_counter, joined, joined_from, kept, numbered, is_label, behind_operation, behind_word, without_word, copied_tokens, in_copy}
+use Rattle.redcode_copies.specs.{Counter.in_copies, Plain.{has_join, has_number, is_numbered, number_of, number_or_token, number_by, modifier_count, kept_behind, kept_count, changed_from, plain_copy}}
 
 -- ---- a number is no sign
 
@@ -45,7 +45,7 @@ no-sign xs s h low = elim (cases_Bool (bytes_eq xs (s ∷ []))) [
 -- ---- what a change to a number does
 
 -- the number in place of the counter if nothing was joined
-abbrev pub plain_number : Counter → Piece → Piece
+abbrev plain_number : Counter → Piece → Piece
 plain_number c token = if is_counter c token then number_token c.number else token
 
 -- a token that is not this sign becomes none
@@ -55,19 +55,32 @@ number-none c x s low none = elim (is_counter c x) as (λ b. has_text (s ∷ [])
   | false ↦ none
 ]
 
+number-by : (b d same : Bool) (n : ℕ) (cs : List Counter) (x : Piece) → (b ≡ false → d ≡ false) → (b && is_numbered cs x) ≡ false
+    → (d && is_numbered cs (if same then number_token n else x)) ≡ false
+number-by b d same n cs x less none = grind arith
+
+-- an & before a token joins it to a counter no more than before
+number-apart : (c : Counter) (cs : List Counter) (x : Piece) (b d : Bool) → (b ≡ false → d ≡ false) → (b && is_numbered cs x) ≡ false → (d && is_numbered cs (plain_number c x)) ≡ false
+number-apart c cs x b d less none = number-by b d (is_counter c x) c.number cs x less none
+
+less-and : (b d t : Bool) → (b ≡ false → d ≡ false) → (b && t) ≡ false → (d && t) ≡ false
+less-and b d t less none = grind arith
+
 -- a token that is no name stays
 other-stays : (c : Counter) (x : Piece) → is_name x.kind ≡ false → plain_number c x ≡ x
 other-stays c x other = rw other refl
 
-numbers-plain : (c : Counter) (n : ℕ) (xs : List Piece) → has_and xs ≡ false → has_and (changed_from (plain_number c) n xs) ≡ false
-numbers-plain c zero [] none = refl
-numbers-plain c zero (x ∷ xs) none =
-    let parts = or_parts (has_text (codes "&") x) (has_and xs) none in
-    rw (number-none c x 38 (omega arith) parts.0, numbers-plain c zero xs parts.1) refl
-numbers-plain c (suc n) [] none = refl
-numbers-plain c (suc n) (x ∷ xs) none =
-    let parts = or_parts (has_text (codes "&") x) (has_and xs) none in
-    rw (parts.0, numbers-plain c n xs parts.1) refl
+-- no counter follows an & if none did before
+numbers-apart : (c : Counter) (cs : List Counter) (b d : Bool) (n : ℕ) (xs : List Piece) → (b ≡ false → d ≡ false) → has_join cs b xs ≡ false
+    → has_join cs d (changed_from (plain_number c) n xs) ≡ false
+numbers-apart c cs b d zero [] less none = refl
+numbers-apart c cs b d zero (x ∷ xs) less none =
+    let parts = or_parts (b && is_numbered cs x) (has_join cs (has_text (codes "&") x) xs) none in
+    rw (number-apart c cs x b d less parts.0) (numbers-apart c cs (has_text (codes "&") x) (has_text (codes "&") (plain_number c x)) 0 xs (number-none c x 38 (omega arith)) parts.1)
+numbers-apart c cs b d (suc n) [] less none = refl
+numbers-apart c cs b d (suc n) (x ∷ xs) less none =
+    let parts = or_parts (b && is_numbered cs x) (has_join cs (has_text (codes "&") x) xs) none in
+    rw (less-and b d (is_numbered cs x) less parts.0) (numbers-apart c cs (has_text (codes "&") x) (has_text (codes "&") x) n xs (λ none. none) parts.1)
 
 -- ---- nothing is joined
 
@@ -75,33 +88,46 @@ numbers-plain c (suc n) (x ∷ xs) none =
 abbrev plain : Piece → Bool × Piece
 plain token = (false, token)
 
--- tokens of which this is said have no & before the counter
-pub record AreApart (c : Counter) (P : List Piece → Type 0) : Type 0 where
-  pub behind : (x : Piece) (xs : List Piece) → P (x ∷ xs) → P xs
-  pub apart : (next after : Piece) (xs : List Piece) → P (next ∷ after ∷ xs) → (has_text (codes "&") next && is_counter c after) ≡ false
+join-within : (cs : List Counter) (b : Bool) (xs : List Piece) → has_join cs b xs ≡ false → has_join cs false xs ≡ false
+join-within cs b [] none = refl
+join-within cs b (x ∷ xs) none = (or_parts (b && is_numbered cs x) (has_join cs (has_text (codes "&") x) xs) none).1
 
-without-and : (c : Counter) → AreApart c (λ xs. has_and xs ≡ false)
-without-and c = record {
-  behind = λ x xs none. (or_parts (has_text (codes "&") x) (has_and xs) none).1;
-  apart = λ next after xs none. rw ((or_parts (has_text (codes "&") next) (has_and (after ∷ xs)) none).0) refl;
-}
+-- without an & none follows one
+pub without-and : (cs : List Counter) (xs : List Piece) → has_and xs ≡ false → has_join cs false xs ≡ false
+without-and cs [] none = refl
+without-and cs (x ∷ xs) none =
+    let parts = or_parts (has_text (codes "&") x) (has_and xs) none in
+    rw (parts.0) (without-and cs xs parts.1)
 
-pub and-false : (b t : Bool) → t ≡ false → (b && t) ≡ false
-and-false b t none = grind arith
+first-by : (b named same : Bool) (n : ℕ) (o : Option ℕ) → (b && (named && is_some (if same then Some n else o))) ≡ false
+    → ((b && (named && is_some (if same then Some n else None))) ≡ false) × ((b && (named && is_some o)) ≡ false)
+first-by b named same n o none = grind arith
+
+join-parts : (c : Counter) (cs : List Counter) (b : Bool) (xs : List Piece) → has_join (c ∷ cs) b xs ≡ false → (has_join (c ∷ []) b xs ≡ false) × (has_join cs b xs ≡ false)
+join-parts c cs b [] none = (refl, refl)
+join-parts c cs b (x ∷ xs) none =
+    let parts = or_parts (b && is_numbered (c ∷ cs) x) (has_join (c ∷ cs) (has_text (codes "&") x) xs) none in
+    let first = first-by b (is_name x.kind) (bytes_eq x.text c.name) c.number (number_of cs x.text) parts.0 in
+    let rest = join-parts c cs (has_text (codes "&") x) xs parts.1 in
+    (rw (first.0, rest.0) refl, rw (first.1, rest.1) refl)
+
+no-join : (t a named same : Bool) (n : ℕ) → (a && (named && is_some (if same then Some n else None))) ≡ false → (t && (a && (named && same))) ≡ false
+no-join t a named same n none = grind arith
 
 -- so no name is joined
-joined-from-plain : (c : Counter) (P : List Piece → Type 0) → AreApart c P → (token : Piece) (tokens : List Piece) → P tokens → joined_from c false token tokens ≡ plain token ∷ map plain tokens
-joined-from-plain c P are token [] none = refl
-joined-from-plain c P are token (next ∷ []) none = refl
-joined-from-plain c P are token (next ∷ after ∷ tokens) none =
-    rw (and-false (is_name token.kind) _ (are.apart next after tokens none))
-    (ap (λ (ts : List (Bool × Piece)). plain token ∷ ts) (joined-from-plain c P are next (after ∷ tokens) (are.behind next (after ∷ tokens) none)))
+joined-from-plain : (c : Counter) (token : Piece) (tokens : List Piece) → has_join (c ∷ []) false tokens ≡ false → joined_from c false token tokens ≡ plain token ∷ map plain tokens
+joined-from-plain c token [] none = refl
+joined-from-plain c token (next ∷ []) none = refl
+joined-from-plain c token (next ∷ after ∷ tokens) none =
+    let parts = or_parts (has_text (codes "&") next && is_numbered (c ∷ []) after) (has_join (c ∷ []) (has_text (codes "&") after) tokens) none in
+    rw (no-join (is_name token.kind) (has_text (codes "&") next) (is_name after.kind) (bytes_eq after.text c.name) c.number parts.0)
+    (ap (λ (ts : List (Bool × Piece)). plain token ∷ ts) (joined-from-plain c next (after ∷ tokens) parts.1))
 
-pub joined-plain : (c : Counter) (P : List Piece → Type 0) → AreApart c P → (tokens : List Piece) → P tokens → joined c tokens ≡ map plain tokens
-joined-plain c P are [] none = refl
-joined-plain c P are (token ∷ tokens) none = joined-from-plain c P are token tokens (are.behind token tokens none)
+joined-plain : (c : Counter) (b : Bool) (tokens : List Piece) → has_join (c ∷ []) b tokens ≡ false → joined c tokens ≡ map plain tokens
+joined-plain c b [] none = refl
+joined-plain c b (token ∷ tokens) none = joined-from-plain c token tokens (join-within (c ∷ []) _ tokens (join-within (c ∷ []) b (token ∷ tokens) none))
 
-pub kept-plain : (tokens : List Piece) → kept (map plain tokens) ≡ tokens
+kept-plain : (tokens : List Piece) → kept (map plain tokens) ≡ tokens
 kept-plain [] = refl
 kept-plain (token ∷ tokens) = ap (λ (ts : List Piece). token ∷ ts) (kept-plain tokens)
 
@@ -141,12 +167,12 @@ behind-plain c (Word.Operation op) xs = operation-plain c xs
 behind-plain c Word.Pspace xs = operation-plain c xs
 behind-plain c _ xs = numbered-plain c xs
 
-pub copied-plain : (c : Counter) (P : List Piece → Type 0) → AreApart c P → (form : LineForm) (word : Option Word) (xs : List Piece) → P xs
+copied-plain : (c : Counter) (form : LineForm) (word : Option Word) (xs : List Piece) → has_join (c ∷ []) false xs ≡ false
     → copied_tokens c form word xs ≡ changed_from (plain_number c) (kept_count form word xs) xs
-copied-plain c P are LineForm.Statement None xs none = rw (joined-plain c P are xs none) (labels-plain c xs)
-copied-plain c P are LineForm.Statement (Some word) [] none = refl
-copied-plain c P are LineForm.Statement (Some word) (x ∷ xs) none = rw (joined-plain c P are xs (are.behind x xs none)) (ap (λ (ts : List Piece). x ∷ ts) (behind-plain c word xs))
-copied-plain c P are _ word xs none = rw (joined-plain c P are xs none) (numbered-plain c xs)
+copied-plain c LineForm.Statement None xs none = rw (joined-plain c false xs none) (labels-plain c xs)
+copied-plain c LineForm.Statement (Some word) [] none = refl
+copied-plain c LineForm.Statement (Some word) (x ∷ xs) none = rw (joined-plain c (has_text (codes "&") x) xs none) (ap (λ (ts : List Piece). x ∷ ts) (behind-plain c word xs))
+copied-plain c _ word xs none = rw (joined-plain c false xs none) (numbered-plain c xs)
 
 -- ---- as many tokens stay in each copy
 
@@ -181,7 +207,7 @@ count-same c _ word xs = refl
 
 -- ---- all counters
 
-pub changed-twice : (f g h : Piece → Piece) (n : ℕ) (xs : List Piece) → ((x : Piece) → g (f x) ≡ h x) → changed_from g n (changed_from f n xs) ≡ changed_from h n xs
+changed-twice : (f g h : Piece → Piece) (n : ℕ) (xs : List Piece) → ((x : Piece) → g (f x) ≡ h x) → changed_from g n (changed_from f n xs) ≡ changed_from h n xs
 changed-twice f g h zero [] same = refl
 changed-twice f g h zero (x ∷ xs) same = rw (same x, changed-twice f g h zero xs same) refl
 changed-twice f g h (suc n) [] same = refl
@@ -194,14 +220,14 @@ none-found x named found none = grind arith
 pub none-changed : (cs : List Counter) (n : ℕ) (xs : List Piece) → has_number cs xs ≡ false → changed_from (number_by cs) n xs ≡ xs
 none-changed cs zero [] none = refl
 none-changed cs zero (x ∷ xs) none =
-    let parts = or_parts (is_name x.kind && is_some (number_of cs x.text)) (has_number cs xs) none in
+    let parts = or_parts (is_numbered cs x) (has_number cs xs) none in
     rw (none-found x (is_name x.kind) (number_of cs x.text) parts.0, none-changed cs zero xs parts.1) refl
 none-changed cs (suc n) [] none = refl
 none-changed cs (suc n) (x ∷ xs) none =
-    let parts = or_parts (is_name x.kind && is_some (number_of cs x.text)) (has_number cs xs) none in
+    let parts = or_parts (is_numbered cs x) (has_number cs xs) none in
     ap (λ (ts : List Piece). x ∷ ts) (none-changed cs n xs parts.1)
 
-pub no-number : (xs : List Piece) → has_number [] xs ≡ false
+no-number : (xs : List Piece) → has_number [] xs ≡ false
 no-number [] = refl
 no-number (x ∷ xs) = elim (is_name x.kind) as (λ b. ((b && false) || has_number [] xs) ≡ false) [
   | true ↦ no-number xs
@@ -213,21 +239,23 @@ next-by : (c : Counter) (cs : List Counter) (x : Piece) (named same : Bool) → 
 next-by c cs x named same is = grind arith
 
 -- the first counter comes first
-pub number-next : (c : Counter) (cs : List Counter) (x : Piece) → number_by cs (plain_number c x) ≡ number_by (c ∷ cs) x
+number-next : (c : Counter) (cs : List Counter) (x : Piece) → number_by cs (plain_number c x) ≡ number_by (c ∷ cs) x
 number-next c cs x = next-by c cs x (is_name x.kind) (bytes_eq x.text c.name) refl
 
--- a line without an & within copies
-pub copies-plain : (cs : List Counter) (line : SourceLine) → has_and line.front ≡ false → has_and line.tokens ≡ false → in_copies cs line ≡ plain_copy cs line
+-- a line in which no counter follows an &, within copies
+pub copies-plain : (cs : List Counter) (line : SourceLine) → has_join cs false line.front ≡ false → has_join cs false line.tokens ≡ false → in_copies cs line ≡ plain_copy cs line
 copies-plain [] line labels none =
     ap (λ (ts : List Piece). record line { tokens = ts }) (sym (none-changed [] (kept_count line.form line.word line.tokens) line.tokens (no-number line.tokens)))
 copies-plain (c ∷ cs) line labels none =
     let n = kept_count line.form line.word line.tokens in
     let new : List Piece = changed_from (plain_number c) n line.tokens in
-    let front : kept (joined c line.front) ≡ line.front = ap kept (joined-plain c _ (without-and c) line.front labels) ∙ kept-plain line.front in
-    let tokens : copied_tokens c line.form line.word line.tokens ≡ new = copied-plain c _ (without-and c) line.form line.word line.tokens none in
+    let parts = join-parts c cs false line.front labels in
+    let apart = join-parts c cs false line.tokens none in
+    let front : kept (joined c line.front) ≡ line.front = ap kept (joined-plain c false line.front parts.0) ∙ kept-plain line.front in
+    let tokens : copied_tokens c line.form line.word line.tokens ≡ new = copied-plain c line.form line.word line.tokens apart.0 in
     let here : in_copy c line ≡ record line { tokens = new } = rw (front, tokens) refl in
     let behind : in_copies cs (record line { tokens = new }) ≡ plain_copy cs (record line { tokens = new }) =
-    copies-plain cs (record line { tokens = new }) labels (numbers-plain c n line.tokens none) in
+    copies-plain cs (record line { tokens = new }) parts.1 (numbers-apart c cs false false n line.tokens (λ none. none) apart.1) in
     let same : changed_from (number_by cs) (kept_count line.form line.word new) new ≡ changed_from (number_by (c ∷ cs)) n line.tokens =
     ap (λ (m : ℕ). changed_from (number_by cs) m new) (count-same c line.form line.word line.tokens)
     ∙ changed-twice (plain_number c) (number_by cs) (number_by (c ∷ cs)) n line.tokens (number-next c cs) in

@@ -1,5 +1,5 @@
 -- What a contract sees of the tokens of a copy that lie in memory.
-use Rattle.{std.specs.Prelude.List, redcode_text.specs.Tokens.Piece, redcode_lines.specs.Line.SourceLine}
+use Rattle.{std.specs.Prelude.{List, Option, Some, None}, redcode_text.specs.Tokens.Piece, redcode_lines.specs.Line.SourceLine}
 
 -- the tokens of a line: before its word, and from it on
 pub record LineTokens : Type 0 where
@@ -9,6 +9,7 @@ pub record LineTokens : Type 0 where
 abbrev pub line_tokens : List Piece → List Piece → LineTokens
 line_tokens front tokens = record { front = front; tokens = tokens }
 
--- a line with these tokens in place of its own
-abbrev pub with_tokens : SourceLine → LineTokens → SourceLine
-with_tokens line copy = record line { front = copy.front; tokens = copy.tokens }
+-- a line with these tokens in place of its own, if there are any
+abbrev pub with_tokens : SourceLine → Option LineTokens → SourceLine
+with_tokens line None = line
+with_tokens line (Some copy) = record line { front = copy.front; tokens = copy.tokens }

@@ -18,7 +18,7 @@ pub fn in_copy<'s, A: Allocator + Copy>(
     counter: &Counter<'s>,
     line: Reading<'_, 's>,
 ) -> Result<LineCopy<'s, A>, AllocError>
-    ensures { IfOk result (λ copy. with_tokens (line_read line.entry) copy ≡ in_copy counter.now (line_read line.entry)) }
+    ensures { IfOk result (λ copy. with_tokens (line_read line.entry) (Some copy) ≡ in_copy counter.now (line_read line.entry)) }
 {
     let front = copied_front(alloc, region, counter, line.front)?;
     match copied_tokens(alloc, region, counter, line) {

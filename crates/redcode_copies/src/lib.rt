@@ -1,6 +1,6 @@
 //! A line in a copy of a block: names are joined to the number of the copy by `&`, and the number stands in place of the counter.
 //!
-//! `copying` writes the copy of a line under one `counter`; `plain` writes that of a line without an `&` under all counters at once;
+//! `copying` writes the copy of a line under one `counter`; `plain` writes that of a line in which no counter follows an `&` under several counters at once;
 //! `line_copy` has the tokens that were written. A joined name or a number lies in the region of the assembly, so a token of a copy is a
 //! `Token` as one of the source is.
 //!
@@ -14,5 +14,5 @@ mod plain;
 
 pub use copying::in_copy;
 pub use counter::Counter;
-pub use line_copy::LineCopy;
-pub use plain::{Counters, has_counter, plain_copy};
+pub use line_copy::{LineCopy, reading_of};
+pub use plain::{Counters, plain_copy};

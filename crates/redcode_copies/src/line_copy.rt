@@ -1,8 +1,11 @@
 //! The tokens of a line in a copy of a block.
 
+ghost use Rattle.std.specs.Prelude.{◌≡◌};
+ghost use Rattle.{redcode_lines.specs.Views.line_read, redcode_copies.specs.Views.with_tokens};
+
 use redcode_lines::Reading;
 use redcode_text::Token;
-use std::alloc::{AllocError, Allocator};
+use std::alloc::Allocator;
 use std::marker::Model;
 
 /// The tokens of a line in a copy of a block.
@@ -22,31 +25,22 @@ impl<'s, A: Allocator> Model for LineCopy<'s, A> {
     ghost view = { λ c. line_tokens (pieces c.front.items) (pieces c.tokens.items) };
 }
 
-impl<'s, A: Allocator + Copy> LineCopy<'s, A> {
-    ghost use Rattle.std.specs.Prelude.{◌≡◌, IfOk};
-    ghost use Rattle.{redcode_lines.specs.Views.line_read, redcode_copies.specs.Views.with_tokens};
-
-    /// The tokens as the line has them.
-    pub fn of(alloc: A, line: Reading<'_, 's>) -> Result<LineCopy<'s, A>, AllocError>
-        ensures { IfOk result (λ copy. with_tokens (line_read line.entry) copy ≡ line_read line.entry) }
-    {
-        Ok(LineCopy {
-            front: Vec::from_slice(alloc, line.front)?,
-            tokens: Vec::from_slice(alloc, line.tokens)?,
-        })
-    }
-
-    /// How the line reads with these tokens.
-    pub fn reading<'l>(&'l self, line: Reading<'_, 's>) -> Reading<'l, 's>
-        ensures { line_read result ≡ with_tokens (line_read line.entry) self.now }
-    {
-        Reading {
+/// How a line reads in a copy of a block: with the tokens of the copy, or as it stands if there are none.
+pub fn reading_of<'l, 's, A: Allocator + Copy>(
+    line: Reading<'l, 's>,
+    copy: &'l Option<LineCopy<'s, A>>,
+) -> Reading<'l, 's>
+    ensures { line_read result ≡ with_tokens (line_read line.entry) copy.now }
+{
+    match copy {
+        Some(copy) => Reading {
             number: line.number,
             form: line.form,
             word: line.word,
             title: line.title,
-            front: self.front.as_slice(),
-            tokens: self.tokens.as_slice(),
-        }
+            front: copy.front.as_slice(),
+            tokens: copy.tokens.as_slice(),
+        },
+        None => line,
     }
 }

@@ -1,11 +1,11 @@
-//! Lines without an `&`: in them no name is joined, so all counters are replaced at once.
+//! Lines in which no counter follows an `&`: no name is joined in them, so all counters are replaced at once.
 
-ghost use Rattle.std.specs.Prelude.{◌≡◌, ◌≤◌, ◌++◌, false, length, map, take, drop, Some, None, IfOk, OnOk, MatchOption};
-ghost use Rattle.{redcode_text.specs.Tokens.{piece_of, pieces}, redcode_lines.specs.{Line.has_and, Views.line_read}};
-ghost use Rattle.redcode_copies.specs.{Counter.in_copies, Plain.{changed_from, has_number, kept_behind, kept_count, modifier_count, number_by}, Views.with_tokens};
+ghost use Rattle.std.specs.Prelude.{◌≡◌, ◌≤◌, ◌++◌, false, length, map, take, drop, Some, None, IfOk, OnOk};
+ghost use Rattle.{redcode_text.specs.Tokens.{piece_of, pieces}, redcode_lines.specs.Views.line_read};
+ghost use Rattle.redcode_copies.specs.{Counter.in_copies, Plain.{changed_from, has_join, has_number, kept_behind, kept_count, modifier_count, number_by}, Views.with_tokens};
 
 use crate::counter::number_token;
-use crate::line_copy::LineCopy;
+use crate::line_copy::{LineCopy, reading_of};
 use bumpalo::Bump;
 use redcode_lines::{LineForm, Reading, behind_names, has_text, is_name};
 use redcode_text::{Token, Word};
@@ -25,7 +25,7 @@ pub trait Counters {
 }
 
 /// Whether a counter is among the tokens.
-pub fn has_counter<C: Counters>(counters: &C, tokens: &[Token<'_>]) -> bool
+fn has_counter<C: Counters>(counters: &C, tokens: &[Token<'_>]) -> bool
     ensures { result ≡ has_number (C.counters counters.now) (pieces tokens.now) }
 {
     for token in tokens {
@@ -36,20 +36,21 @@ pub fn has_counter<C: Counters>(counters: &C, tokens: &[Token<'_>]) -> bool
     false
 }
 
-/// A line without an `&` within copies; `None` if it names no counter, and so reads as it stands.
+/// The copy of a line, as it reads in a copy of it, in which no counter follows an `&`, within further copies.
 pub fn plain_copy<'s, A: Allocator + Copy, C: Counters>(
     alloc: A,
     region: &'s Bump<A>,
     counters: &C,
     line: Reading<'_, 's>,
+    copy: Option<LineCopy<'s, A>>,
 ) -> Result<Option<LineCopy<'s, A>>, AllocError>
-    requires front { has_and (pieces line.front.now) ≡ false }
-    requires tokens { has_and (pieces line.tokens.now) ≡ false }
-    ensures { IfOk result (λ copy. MatchOption copy (in_copies (C.counters counters.now) (line_read line.entry) ≡ line_read line.entry)
-        (λ copy. with_tokens (line_read line.entry) copy ≡ in_copies (C.counters counters.now) (line_read line.entry))) }
+    requires front { has_join (C.counters counters.now) false (with_tokens (line_read line) copy).front ≡ false }
+    requires tokens { has_join (C.counters counters.now) false (with_tokens (line_read line) copy).tokens ≡ false }
+    ensures { IfOk result (λ new. with_tokens (line_read line.entry) new ≡ in_copies (C.counters counters.now) (with_tokens (line_read line.entry) copy.entry)) }
 {
+    let line = reading_of(line, &copy);
     if !has_counter(counters, line.tokens) {
-        return Ok(None);
+        return Ok(copy);
     }
     let (kept, changed) = line.tokens.split_at(kept_count(line));
     let mut tokens = Vec::with_capacity(alloc, line.tokens.len())?;

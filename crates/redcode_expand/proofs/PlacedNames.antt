@@ -1,10 +1,10 @@
 -- The counters of open blocks, the outermost first: the index of the first block whose counter has a name.
 use Rattle.std.proofs.Common.{◌≡◌, ℕ, zero, suc, ◌<◌, ◌≤◌, Bool, true, false, if◌then◌else◌, List, [], ◌∷◌, ◌++◌, length, get_or, Option, Some, None, refl, sym, ap, ◌∙◌, subst, inl}
-use Rattle.std.proofs.{Common.{inr, arith, ◌+◌, ◌-◌, ◌&&◌, MatchOption, reverse, take, drop}, lemmas.Bool.{cases_Bool, or_parts}, lemmas.Slice.Eq.bytes_eq-Decides}
-use Rattle.{std.specs.{Bool.⊤, Option.{is_some, option_map}, Str.bytes_eq}, indexmap.specs.IndexMap.insert_entry, std.proofs.{lemmas.Grind.common_steps, lemmas.List.{reverse-append, drop-drop, drop_more, take_more, map-append}}}
+use Rattle.std.proofs.{Common.{inr, ◌⊎◌, arith, ◌+◌, ◌-◌, ◌&&◌, MatchOption, reverse, take, drop}, lemmas.Bool.{cases_Bool, or_parts}, lemmas.Slice.Eq.bytes_eq-Decides}
+use Rattle.{std.specs.{Bool.⊤, Option.{is_some, option_map}, Str.bytes_eq}, indexmap.specs.IndexMap.insert_entry, std.proofs.{lemmas.Grind.common_steps, lemmas.List.{reverse-append, drop-drop, drop_more, get_or-drop, get_or-take, length-drop, take_more, map-append}}}
 use Rattle.{redcode_text.specs.{declared.token.Token.Token, Tokens.{piece_of, pieces}}, redcode_lines.specs.Line.is_name_token}
-use Rattle.{redcode_copies.proofs.WrittenLines.unnamed-copies, redcode_expand.specs.Rest.{OpenBlock, ArePlaced, counters_in, place_in, counters_of}}
-use Rattle.redcode_expand.proofs.Words.{number_of, has_number, LabelList, address_of, Piece, SourceLine, is_name, Counter, in_copy, in_copies}
+use Rattle.{redcode_copies.specs.Plain.{has_join, is_numbered}, redcode_lines.specs.Line.has_text, std.proofs.Common.codes, redcode_expand.specs.Rest.{OpenBlock, ArePlaced, counters_in, place_in, counters_of}}
+use Rattle.redcode_expand.proofs.Words.{number_of, LabelList, address_of, Piece, SourceLine, is_name, Counter, in_copy, in_copies}
 
 pub None≢Some : {X : Type 0} (x : X) (o : Option X) → o ≡ None → o ≡ Some x → ⊥
 None≢Some x o none some = cc
@@ -39,10 +39,6 @@ first-is (b ∷ bs) name d p is = elim (cases_Bool (bytes_eq name b.counter.name
       let later = later-place (place_in bs name) p there in
       subst (IsFirst (b ∷ bs) name d) (sym later.2) (first-later name b bs d later.0 f (first-is bs name d later.0 later.1))
 ]
-
-pub none-is : (bs : List OpenBlock) (name : List ℕ) → place_in bs name ≡ None → number_of (counters_in bs) name ≡ None
-none-is [] name is = refl
-none-is (b ∷ bs) name is = grind (arith, none-is bs name)
 
 pub placed-within : (bs : List OpenBlock) (name : List ℕ) (p : ℕ) → place_in bs name ≡ Some p → p < length bs
 placed-within [] name p is = cc
@@ -120,39 +116,77 @@ unplaced bs name zero none = refl
 unplaced [] name (suc k) none = refl
 unplaced (b ∷ bs) name (suc k) none = grind (arith, unplaced bs name k)
 
+pub number-none : (bs : List OpenBlock) (name : List ℕ) (k : ℕ) → place_in bs name ≡ None → number_of (counters_in (take k bs)) name ≡ None
+number-none bs name k none = unplaced bs name k (rw none tt)
+
+pub number-past : (bs : List OpenBlock) (name : List ℕ) (k p : ℕ) → place_in bs name ≡ Some p → k ≤ p → number_of (counters_in (take k bs)) name ≡ None
+number-past bs name k p is past = unplaced bs name k (rw is past)
+
+place-take : (bs : List OpenBlock) (name : List ℕ) (k p : ℕ) → place_in bs name ≡ Some p → p < k → place_in (take k bs) name ≡ Some p
+place-take bs name zero p is few = absurd (omega (arith, few))
+place-take [] name (suc k) p is few = cc
+place-take (b ∷ bs) name (suc k) p is few = grind (arith, place-take bs name k)
+
+pub number-there : (bs : List OpenBlock) (from : ℕ) (name : List ℕ) (k p : ℕ) (d : OpenBlock) → place_in (drop from bs) name ≡ Some p → p < k
+    → number_of (counters_in (take k (drop from bs))) name ≡ Some (get_or bs (from + p) d).counter.number
+number-there bs from name k p d is few =
+    (first-is (take k (drop from bs)) name d p (place-take (drop from bs) name k p is few)).2
+    ∙ ap (λ (b : OpenBlock). Some b.counter.number) (get_or-take k (drop from bs) p d few ∙ get_or-drop from bs p d)
+
 fewer-unplaced : (bs : List OpenBlock) (name : List ℕ) (k n : ℕ) → k ≤ n → number_of (counters_in (take n bs)) name ≡ None → number_of (counters_in (take k bs)) name ≡ None
 fewer-unplaced bs name zero n few none = refl
 fewer-unplaced [] name (suc k) n few none = refl
 fewer-unplaced (b ∷ bs) name (suc k) zero few none = absurd (omega (arith, few))
 fewer-unplaced (b ∷ bs) name (suc k) (suc n) few none = grind (arith, fewer-unplaced bs name k n)
 
-pub fewer-named : (bs : List OpenBlock) (k n : ℕ) (ts : List Piece) → k ≤ n → has_number (counters_in (take n bs)) ts ≡ false → has_number (counters_in (take k bs)) ts ≡ false
-fewer-named bs k n [] few none = refl
-fewer-named bs k n (x ∷ ts) few none = grind (arith, fewer-unplaced bs x.text k n, fewer-named bs k n ts)
+pub fewer-joined : (bs : List OpenBlock) (k n : ℕ) (b : Bool) (ts : List Piece) → k ≤ n → has_join (counters_in (take n bs)) b ts ≡ false → has_join (counters_in (take k bs)) b ts ≡ false
+fewer-joined bs k n b [] few none = refl
+fewer-joined bs k n b (x ∷ ts) few none = grind (arith, fewer-unplaced bs x.text k n, fewer-joined bs k n (has_text (codes "&") x) ts)
 
-named-last : (cs : List Counter) (ts : List Piece) (t : Piece) → has_number cs ts ≡ false → (is_name t.kind && is_some (number_of cs t.text)) ≡ false → has_number cs (ts ++ t ∷ []) ≡ false
-named-last cs [] t none last = rw last refl
-named-last cs (x ∷ ts) t none last =
-    let parts = or_parts _ (has_number cs ts) none in
-    rw (parts.0, named-last cs ts t parts.1 last) refl
+-- whether the last token is an &; `b` if there is none
+abbrev pub ends_and : Bool → List Piece → Bool
+ends_and b [] = b
+ends_and b (x ∷ xs) = ends_and (has_text (codes "&") x) xs
 
-none-last : (named : Bool) (o : Option ℕ) → (named ≡ true → o ≡ None) → (named && is_some o) ≡ false
-none-last true o none = ap is_some (none refl)
-none-last false o none = refl
+ends-last : (b : Bool) (ts : List Piece) (t : Piece) → ends_and b (ts ++ t ∷ []) ≡ has_text (codes "&") t
+ends-last b [] t = refl
+ends-last b (x ∷ ts) t = ends-last (has_text (codes "&") x) ts t
 
--- a token more, of which no block so far has the name
-pub unnamed-more : (bs : List OpenBlock) (k n : ℕ) (ts : List Token) (i : ℕ) (d : Token) → i < length ts → k ≤ n → has_number (counters_in (take n bs)) (pieces (take i ts)) ≡ false
-    → (is_name_token (piece_of (get_or ts i d)) ≡ true → MatchOption (place_in bs (piece_of (get_or ts i d)).text) ⊤ (λ p. k ≤ p)) → has_number (counters_in (take k bs)) (pieces (take (i + 1) ts)) ≡ false
-unnamed-more bs k n ts i d within few none last =
+join-last : (cs : List Counter) (b : Bool) (ts : List Piece) (t : Piece) → has_join cs b ts ≡ false → (ends_and b ts && is_numbered cs t) ≡ false → has_join cs b (ts ++ t ∷ []) ≡ false
+join-last cs b [] t none last = rw last refl
+join-last cs b (x ∷ ts) t none last =
+    let parts = or_parts _ (has_join cs (has_text (codes "&") x) ts) none in
+    rw (parts.0) (join-last cs (has_text (codes "&") x) ts t parts.1 last)
+
+none-last : (ends named : Bool) (o : Option ℕ) → (ends ≡ true → named ≡ true → o ≡ None) → (ends && (named && is_some o)) ≡ false
+none-last true true o none = ap is_some (none refl refl)
+none-last true false o none = refl
+none-last false named o none = refl
+
+token-more : (ts : List Token) (i : ℕ) (d : Token) → i < length ts → pieces (take (i + 1) ts) ≡ pieces (take i ts) ++ piece_of (get_or ts i d) ∷ []
+token-more ts i d within = ap (λ (xs : List Token). pieces xs) (take_more ts i d within) ∙ map-append piece_of (take i ts) (get_or ts i d ∷ [])
+
+-- a token more, after which an & may have come
+pub ends-more : (ts : List Token) (i : ℕ) (d : Token) → i < length ts → ends_and false (pieces (take (i + 1) ts)) ≡ has_text (codes "&") (piece_of (get_or ts i d))
+ends-more ts i d within = ap (ends_and false) (token-more ts i d within) ∙ ends-last false (pieces (take i ts)) (piece_of (get_or ts i d))
+
+-- a token more, of which no block so far has the name if it follows an &
+pub unjoined-more : (bs : List OpenBlock) (k n : ℕ) (ts : List Token) (i : ℕ) (d : Token) → i < length ts → k ≤ n → has_join (counters_in (take n bs)) false (pieces (take i ts)) ≡ false
+    → (ends_and false (pieces (take i ts)) ≡ true → is_name_token (piece_of (get_or ts i d)) ≡ true → MatchOption (place_in bs (piece_of (get_or ts i d)).text) ⊤ (λ p. k ≤ p))
+    → has_join (counters_in (take k bs)) false (pieces (take (i + 1) ts)) ≡ false
+unjoined-more bs k n ts i d within few none last =
     let token = piece_of (get_or ts i d) in
+    let front = pieces (take i ts) in
     let cs = counters_in (take k bs) in
-    let whole : pieces (take (i + 1) ts) ≡ pieces (take i ts) ++ token ∷ [] = ap (λ (xs : List Token). pieces xs) (take_more ts i d within) ∙ map-append piece_of (take i ts) (get_or ts i d ∷ []) in
-    ap (has_number cs) whole
-    ∙ named-last cs (pieces (take i ts)) token (fewer-named bs k n (pieces (take i ts)) few none) (none-last (is_name token.kind) (number_of cs token.text) (λ is. unplaced bs token.text k (last is)))
+    ap (has_join cs false) (token-more ts i d within)
+    ∙ join-last cs false front token (fewer-joined bs k n false front few none)
+    (none-last (ends_and false front) (is_name token.kind) (number_of cs token.text) (λ ends is. unplaced bs token.text k (last ends is)))
 
-pub unnamed-other : (bs : List OpenBlock) (n : ℕ) (ts : List Token) (i : ℕ) (d : Token) → i < length ts → has_number (counters_in (take n bs)) (pieces (take i ts)) ≡ false
-    → false ≡ is_name_token (piece_of (get_or ts i d)) → has_number (counters_in (take n bs)) (pieces (take (i + 1) ts)) ≡ false
-unnamed-other bs n ts i d within none other = unnamed-more bs n n ts i d within (omega arith) none (λ is. cc)
+-- a token more, which follows no & or is no name
+pub unjoined-other : (bs : List OpenBlock) (n : ℕ) (ts : List Token) (i : ℕ) (d : Token) → i < length ts → has_join (counters_in (take n bs)) false (pieces (take i ts)) ≡ false
+    → (false ≡ ends_and false (pieces (take i ts))) ⊎ (false ≡ is_name_token (piece_of (get_or ts i d))) → has_join (counters_in (take n bs)) false (pieces (take (i + 1) ts)) ≡ false
+unjoined-other bs n ts i d within none (inl apart) = unjoined-more bs n n ts i d within (omega arith) none (λ ends is. cc)
+unjoined-other bs n ts i d within none (inr other) = unjoined-more bs n n ts i d within (omega arith) none (λ ends is. cc)
 
 -- ---- one block fewer, and one more
 
@@ -199,11 +233,9 @@ placed-set places bs k place h1 h2 = grind (arith, bytes_eq-Decides, None≢Some
 pub placed-next : (places : LabelList) (k : List ℕ) (place : ℕ) → address_of (insert_entry bytes_eq places k place) k ≡ Some place
 placed-next places k place = grind (arith, address-inserted, bytes_eq-Decides)
 
-pub some-place : (o : Option ℕ) → is_some o ≡ true → o ≡ None → ⊥
-some-place o h1 h2 = grind arith
-
-pub no-place : (o : Option ℕ) → is_some o ≡ false → o ≡ None
-no-place o h1 = grind arith
+-- a place from an index on
+pub place-within : (bs : List OpenBlock) (from : ℕ) (name : List ℕ) (p : ℕ) → place_in (drop from bs) name ≡ Some p → from + p < length bs
+place-within bs from name p is = omega (arith, placed-within (drop from bs) name p is, length-drop from bs)
 
 -- ---- counters
 
@@ -216,19 +248,19 @@ pub counters-reverse : (bs : List OpenBlock) → counters_of (reverse bs) ≡ co
 counters-reverse [] = refl
 counters-reverse (b ∷ bs) = ap counters_of (reverse-append (b ∷ []) bs) ∙ counters-outer (reverse bs) b ∙ ap (λ (cs : List Counter). b.counter ∷ cs) (counters-reverse bs)
 
--- ---- copies that change nothing
+-- ---- copies of several blocks
 
 copies-split : (k : ℕ) (bs : List OpenBlock) (line : SourceLine) → in_copies (counters_in bs) line ≡ in_copies (counters_in (drop k bs)) (in_copies (counters_in (take k bs)) line)
 copies-split zero bs line = refl
 copies-split (suc k) [] line = refl
 copies-split (suc k) (b ∷ bs) line = copies-split k bs (in_copy b.counter line)
 
--- a line that names none of the next blocks reads in the copies after these as in all
-pub copies-on : (bs : List OpenBlock) (from k : ℕ) (line : SourceLine) → has_number (counters_in (take k (drop from bs))) line.front ≡ false
-    → has_number (counters_in (take k (drop from bs))) line.tokens ≡ false → in_copies (counters_in (drop from bs)) line ≡ in_copies (counters_in (drop (from + k) bs)) line
-copies-on bs from k line front tokens =
-    copies-split k (drop from bs) line ∙ ap (in_copies (counters_in (drop k (drop from bs)))) (unnamed-copies (counters_in (take k (drop from bs))) line front tokens)
-    ∙ ap (λ (xs : List OpenBlock). in_copies (counters_in xs) line) (drop-drop k from bs)
+-- a line within the copies of the next blocks
+pub copies-on : (bs : List OpenBlock) (from k : ℕ) (line new : SourceLine) → new ≡ in_copies (counters_in (take k (drop from bs))) line
+    → in_copies (counters_in (drop from bs)) line ≡ in_copies (counters_in (drop (from + k) bs)) new
+copies-on bs from k line new written =
+    copies-split k (drop from bs) line ∙ ap (in_copies (counters_in (drop k (drop from bs)))) (sym written)
+    ∙ ap (λ (xs : List OpenBlock). in_copies (counters_in xs) new) (drop-drop k from bs)
 
 -- one within the copy of the next block
 pub copies-next : (bs : List OpenBlock) (i : ℕ) (b : OpenBlock) (counter : Counter) (line new : SourceLine) → i < length bs → b ≡ get_or bs i b → counter ≡ b.counter

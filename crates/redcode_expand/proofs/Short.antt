@@ -1,7 +1,7 @@
 -- A line with too many operands is walked over without those that can't matter: what is kept of it is the same.
 use Rattle.std.proofs.Common.{◌≡◌, ℕ, zero, suc, ◌+◌, ◌<◌, Bool, true, false, not, ◌&&◌, nat_lt, List, [], ◌∷◌, length, take, Option, Some, None, Ok, Err, refl, sym, ap, ◌∙◌, subst, arith}
 use Rattle.std.proofs.{Common.{inl, inr}, lemmas.Bool.{true≢false, and_parts, cases_Bool, ltb-true, or_parts}, lemmas.List.{map-append, take-map, take-take}}
-use Rattle.{redcode_copies.proofs.PlainLines.copies-plain, redcode_copies.specs.Plain.modifier_count, redcode_names.specs.Gives.{◌>>=◌, Fails}}
+use Rattle.{redcode_copies.proofs.PlainLines.{copies-plain, without-and}, redcode_copies.specs.Plain.modifier_count, redcode_names.specs.Gives.{◌>>=◌, Fails}}
 use Rattle.redcode_expand.specs.Walk.{ExpandedLine, WalkState, counted, labelled, step, step_as, with_line, with_word, worded, is_equ_word}
 use Rattle.redcode_expand.specs.{Cut.{cut_line, cut_walk, is_limited, kept_tokens, with_cut}, Marks.{has_operands, is_long, shortened}}
 use Rattle.redcode_expand.proofs.Words.{AsmFault, RawSettings, Walked, Piece, SourceLine, label_tokens, names_among, Counter, in_copies, changed_from, kept_count, number_by, plain_copy, Word, LineKind, LineForm, has_and}
@@ -104,8 +104,8 @@ short-long s cs line st long =
     let short : SourceLine = with_pieces line (take 516 line.tokens) in
     let ts : List Piece = (plain_copy cs line).tokens in
     let us : List Piece = (plain_copy cs short).tokens in
-    let here : in_copies cs line ≡ with_pieces line ts = copies-plain cs line parts.1 parts.2 in
-    let there : in_copies cs short ≡ with_pieces line us = copies-plain cs short parts.1 (none-taken 516 line.tokens parts.2) in
+    let here : in_copies cs line ≡ with_pieces line ts = copies-plain cs line (without-and cs line.front parts.1) (without-and cs line.tokens parts.2) in
+    let there : in_copies cs short ≡ with_pieces line us = copies-plain cs short (without-and cs line.front parts.1) (without-and cs short.tokens (none-taken 516 line.tokens parts.2)) in
     let same : us ≡ take 516 ts =
     ap (λ (k : ℕ). changed_from (number_by cs) k (take 516 line.tokens)) (count-taken 513 line.form line.word line.tokens parts.0)
     ∙ changed-taken (number_by cs) (kept_count line.form line.word line.tokens) 516 line.tokens in

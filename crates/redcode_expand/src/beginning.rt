@@ -9,6 +9,7 @@ use crate::counts::Counts;
 use crate::marked_lines::MarkedLines;
 use crate::open_blocks::OpenBlocks;
 use crate::walk::Walk;
+use redcode_copies::reading_of;
 use redcode_lines::{Reading, behind_first, is_name};
 use redcode_text::Token;
 use std::alloc::Allocator;
@@ -35,10 +36,8 @@ impl<'s, A: Allocator + Copy> Walk<'s, A> {
         ensures counted { OnOk result (self.new.counted ≡ self.old.counted) }
         ensures few { IfOk result (λ b. b.copies < 2 ^ 63) }
     {
-        match blocks.copy_of(line)? {
-            Some(copy) => self.begin_as(settings, copy.reading(line)),
-            None => self.begin_as(settings, line),
-        }
+        let copy = blocks.copy_of(line)?;
+        self.begin_as(settings, reading_of(line, &copy))
     }
 
     /// Walks over the `FOR` of a block as it reads.

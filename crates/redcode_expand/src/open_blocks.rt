@@ -1,20 +1,20 @@
 //! The blocks whose copies are being written.
 
-ghost use Rattle.std.specs.Prelude.{◌≡◌, ◌+◌, ◌≤◌, ◌∷◌, [], length, take, drop, true, false, ⊤, None, Some, IfOk, OnOk, MatchOption};
+ghost use Rattle.std.specs.Prelude.{◌≡◌, ◌+◌, ◌≤◌, ◌∷◌, [], length, take, drop, false, ⊤, None, Some, IfOk, OnOk, MatchOption};
 ghost use Rattle.{redcode_text.specs.Tokens.pieces, redcode_lines.specs.Views.line_read};
-ghost use Rattle.redcode_copies.specs.{Counter.in_copies, Plain.{has_number, number_of}, Views.with_tokens};
+ghost use Rattle.redcode_copies.specs.{Counter.in_copies, Plain.has_join, Views.with_tokens};
 ghost use Rattle.{redcode_names.specs.Name.address_of, redcode_expand.specs.Rest.{ArePlaced, counters_in, counters_of, has_none, place_in}};
 
 use crate::open_block::OpenBlock;
 use bumpalo::Bump;
-use redcode_copies::{Counters, LineCopy, in_copy, plain_copy};
-use redcode_lines::{Reading, has_and, is_name};
+use redcode_copies::{Counters, LineCopy, in_copy, plain_copy, reading_of};
+use redcode_lines::{Reading, has_text, is_name};
 use redcode_names::{CounterNames, NameHash};
 use redcode_text::Token;
 use std::alloc::{AllocError, Allocator};
 use std::marker::Model;
 
-/// The most blocks that are compared one after another, since a name's hash takes longer, or gone through without a look for the next.
+/// The most blocks that are compared one after another, since a name's hash takes longer.
 const FEW: usize = 8;
 
 /// The blocks whose copies are being written, the innermost first.
@@ -78,62 +78,87 @@ impl<'s, A: Allocator + Copy> OpenBlocks<'s, A> {
         self.blocks.pop()
     }
 
-    /// A line within the copies that are being written; `None` if it reads as it stands in the source.
+    /// The copy of a line within the copies that are being written; `None` if it reads as it stands in the source.
     pub(crate) fn copy_of(
         &self,
         line: Reading<'_, 's>,
     ) -> Result<Option<LineCopy<'s, A>>, AllocError>
-        ensures { IfOk result (λ copy. MatchOption copy (in_copies (counters_of self.now) (line_read line.entry) ≡ line_read line.entry)
-            (λ copy. with_tokens (line_read line.entry) copy ≡ in_copies (counters_of self.now) (line_read line.entry))) }
+        ensures { IfOk result (λ copy. with_tokens (line_read line.entry) copy ≡ in_copies (counters_of self.now) (line_read line.entry)) }
     {
-        if self.blocks.is_empty() {
-            return Ok(None);
-        }
-        if has_and(line.front) || has_and(line.tokens) {
-            let blocks = self.blocks.as_slice();
-            let copy = in_blocks(self.alloc, self.region, &self.names, blocks, line)?;
-            return Ok(Some(copy));
-        }
-        plain_copy(self.alloc, self.region, self, line)
+        let blocks = self.blocks.as_slice();
+        in_blocks(self.alloc, self.region, &self.names, blocks, line)
     }
 }
 
-impl<A: Allocator + Copy> Counters for OpenBlocks<'_, A> {
-    ghost counters = { λ blocks. counters_of blocks };
+/// The next of the open blocks, from the index `from` on.
+#[derive(Drop)]
+struct NextBlocks<'b, 's, A: Allocator + Copy> {
+    names: &'b CounterNames<'s, A>,
+    blocks: &'b [OpenBlock<'s>],
+    from: usize,
+    count: usize,
+}
+
+impl<'b, 's, A: Allocator + Copy> Model for NextBlocks<'b, 's, A> {
+    ghost use Rattle.std.specs.Prelude.{◌≤◌, List, drop, length, take};
+    ghost use Rattle.redcode_expand.specs.Rest.{OpenBlock, ArePlaced};
+
+    ghost Value = { List OpenBlock };
+
+    ghost view = { λ b. take b.count (drop b.from b.blocks.now) };
+
+    ghost invariant = { λ b. ArePlaced b.names.now b.blocks.now × (b.from ≤ length b.blocks.now) };
+}
+
+impl<A: Allocator + Copy> Counters for NextBlocks<'_, '_, A> {
+    ghost counters = { λ blocks. counters_in blocks };
 
     fn number_of(&self, name: &[u8]) -> Option<u64> {
-        number_of(&self.names, self.blocks.as_slice(), name)
+        let place = place_from(self.names, self.blocks, self.from, name)?;
+        if place >= self.count {
+            return None;
+        }
+        let block = &self.blocks[self.from + place];
+        Some(block.copy())
     }
 }
 
-/// A line within copies of these blocks, the outermost first. A block whose counter the line doesn't name changes nothing.
+/// The copy of a line within copies of these blocks, the outermost first. All counters up to the next that follows an `&` are replaced at once.
 fn in_blocks<'s, A: Allocator + Copy>(
     alloc: A,
     region: &'s Bump<A>,
-    names: &CounterNames<'_, A>,
+    names: &CounterNames<'s, A>,
     blocks: &[OpenBlock<'s>],
     line: Reading<'_, 's>,
-) -> Result<LineCopy<'s, A>, AllocError>
+) -> Result<Option<LineCopy<'s, A>>, AllocError>
     requires { ArePlaced names.now blocks.now }
     ensures { IfOk result (λ copy. with_tokens (line_read line.entry) copy ≡ in_copies (counters_in blocks.now) (line_read line.entry)) }
 {
-    let mut copy = LineCopy::of(alloc, line)?;
+    let mut copy = None;
     let mut from = 0;
     while from < blocks.len() {
-        let next = from + unnamed(names, blocks, from, copy.reading(line));
-        if next == blocks.len() {
+        let count = unjoined(names, blocks, from, reading_of(line, &copy));
+        let next = NextBlocks {
+            names,
+            blocks,
+            from,
+            count,
+        };
+        copy = plain_copy(alloc, region, &next, line, copy)?;
+        from += count;
+        if from == blocks.len() {
             return Ok(copy);
         }
-        let block = &blocks[next];
-        copy = in_copy(alloc, region, &block.counter, copy.reading(line))?;
-        from = next + 1;
+        let block = &blocks[from];
+        let written = in_copy(alloc, region, &block.counter, reading_of(line, &copy))?;
+        copy = Some(written);
+        from += 1;
     }
     Ok(copy)
 }
 
-/// A number of blocks from this index on whose counters the line doesn't name: all before the first that it names, or none. Looking for
-/// them takes longer than the copy of a block, so it is not done for each.
-fn unnamed<A: Allocator + Copy>(
+/// The number of blocks from this index on before the first whose counter follows an `&` in the line; all if there is none.
+fn unjoined<A: Allocator + Copy>(
     names: &CounterNames<'_, A>,
     blocks: &[OpenBlock<'_>],
     from: usize,
@@ -142,19 +167,16 @@ fn unnamed<A: Allocator + Copy>(
     requires placed { ArePlaced names.now blocks.now }
     requires within { from ≤ length blocks.now }
     ensures within { from + result ≤ length blocks.now }
-    ensures front { has_number (counters_in (take result (drop from blocks.now))) (line_read line.entry).front ≡ false }
-    ensures tokens { has_number (counters_in (take result (drop from blocks.now))) (line_read line.entry).tokens ≡ false }
+    ensures front { has_join (counters_in (take result (drop from blocks.now))) false (line_read line.entry).front ≡ false }
+    ensures tokens { has_join (counters_in (take result (drop from blocks.now))) false (line_read line.entry).tokens ≡ false }
 {
-    if from % FEW != 0 {
-        return 0;
-    }
     let most = blocks.len() - from;
-    let front = unnamed_by(names, blocks, from, most, line.front);
-    unnamed_by(names, blocks, from, front, line.tokens)
+    let front = unjoined_in(names, blocks, from, most, line.front);
+    unjoined_in(names, blocks, from, front, line.tokens)
 }
 
-/// The number of blocks from this index on before the first whose counter one of the tokens is; `most` if there are more.
-fn unnamed_by<A: Allocator + Copy>(
+/// The number of blocks from this index on before the first whose counter follows an `&` among the tokens; `most` if there are more.
+fn unjoined_in<A: Allocator + Copy>(
     names: &CounterNames<'_, A>,
     blocks: &[OpenBlock<'_>],
     from: usize,
@@ -164,13 +186,15 @@ fn unnamed_by<A: Allocator + Copy>(
     requires placed { ArePlaced names.now blocks.now }
     requires within { from ≤ length blocks.now }
     ensures most { result ≤ most }
-    ensures none { has_number (counters_in (take result (drop from blocks.now))) (pieces tokens.now) ≡ false }
+    ensures none { has_join (counters_in (take result (drop from blocks.now))) false (pieces tokens.now) ≡ false }
 {
     let mut count = most;
+    let mut is_behind_and = false;
     for token in tokens {
-        if is_name(token) {
+        if is_behind_and && is_name(token) {
             count = before(count, place_from(names, blocks, from, token.text));
         }
+        is_behind_and = has_text(token, b"&");
     }
     count
 }
@@ -202,20 +226,6 @@ fn place_from<A: Allocator + Copy>(
         return place_among(&blocks[from..], name);
     }
     Some(place - from)
-}
-
-/// The number of the first counter among the blocks that has this name.
-fn number_of<A: Allocator + Copy>(
-    names: &CounterNames<'_, A>,
-    blocks: &[OpenBlock<'_>],
-    name: &[u8],
-) -> Option<u64>
-    requires { ArePlaced names.now blocks.now }
-    ensures { result ≡ number_of (counters_in blocks.now) name.now }
-{
-    let place = place_of(names, blocks, name)?;
-    let block = &blocks[place];
-    Some(block.copy())
 }
 
 /// The index of the first block of this name.
@@ -264,22 +274,8 @@ fn place_next<'s, A: Allocator + Copy>(
     ensures placed { ArePlaced names.new blocks.now }
     ensures next { OnOk result (place_in blocks.now name.entry.now ≡ None → address_of names.new name.entry.now ≡ Some (length blocks.now)) }
 {
-    if place_of(names, blocks, name).is_some() {
-        return Ok(());
+    if place_of(names, blocks, name).is_none() {
+        names.set(name, blocks.len())?;
     }
-    if is_placed(names, blocks.len(), name) {
-        return Ok(());
-    }
-    names.set(name, blocks.len())?;
     Ok(())
-}
-
-/// Whether a name has this index already, from an earlier block.
-fn is_placed<A: Allocator + Copy>(names: &CounterNames<'_, A>, place: usize, name: &[u8]) -> bool
-    ensures { result ≡ true → address_of names.now name.now ≡ Some place }
-{
-    match names.place_of(name) {
-        Some(found) => found == place,
-        None => false,
-    }
 }

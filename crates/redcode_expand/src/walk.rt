@@ -9,6 +9,7 @@ use crate::entry::{Entry, cut};
 use crate::expanded::{Expanded, expanded_of};
 use crate::open_blocks::OpenBlocks;
 use crate::steps::Steps;
+use redcode_copies::reading_of;
 use redcode_lines::{Line, LineForm, LineKind, Reading, behind_first};
 use redcode_names::{NameHash, Names};
 use redcode_text::{Token, Word};
@@ -86,10 +87,8 @@ impl<'s, A: Allocator + Copy> Walk<'s, A> {
         ensures step { Gives (λ _. cut_walk self.new) result (with_cut (step settings.now (counters_of blocks.now) (line_read line.entry) self.old)) }
         ensures counted { OnOk result ((self.new.counted ≡ self.old.counted + 1) × (self.old.counted < 4096)) }
     {
-        match blocks.copy_of(line)? {
-            Some(copy) => self.step_as(settings, copy.reading(line)),
-            None => self.step_as(settings, line),
-        }
+        let copy = blocks.copy_of(line)?;
+        self.step_as(settings, reading_of(line, &copy))
     }
 
     /// Walks over a line as it reads.
@@ -116,10 +115,8 @@ impl<'s, A: Allocator + Copy> Walk<'s, A> {
         ensures before { self.new.before ≡ self.old.before }
         ensures counted { self.new.counted ≡ self.old.counted }
     {
-        match blocks.copy_of(line)? {
-            Some(copy) => self.label(settings, copy.reading(line)),
-            None => self.label(settings, line),
-        }
+        let copy = blocks.copy_of(line)?;
+        self.label(settings, reading_of(line, &copy))
     }
 
     /// Ends a copy that began when `start` lines were counted. A copy in which no line counted counts as one.
