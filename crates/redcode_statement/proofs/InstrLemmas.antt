@@ -1,7 +1,7 @@
 -- An instruction's line of the load text, as it is read.
 use Rattle.std.proofs.Common.{◌≡◌, ℕ, ◌≤◌, false, List, [], ◌∷◌, ◌++◌, length, drop, Option, Some, None, Ok, ℤ, refl, ap, subst, ◌∙◌, arith, append_assoc, codes}
-use Rattle.{std.specs.List.{AllByRecursion, list_any}, std.proofs.{lemmas.Bool.Decides.nat_tests, lemmas.List.{append-nil, length-append, length-replicate}, lemmas.List.Folds.list_any-append}}
-use Rattle.war_types.specs.{Warrior.HasNumbersBelow, declared.instr.Instr.Instr}
+use Rattle.std.proofs.{lemmas.Bool.Decides.nat_tests, lemmas.List.{append-nil, length-append, length-replicate}, lemmas.List.Folds.list_any-append}
+use Rattle.{std.specs.List.{AllByRecursion, list_any}, war_types.specs.{Warrior.HasNumbersBelow, declared.instr.Instr.Instr}}
 use Rattle.redcode_text.specs.{Tokens.{Piece, piece}, Vocabulary.{op_text, modifier_text}, declared.token.TokenKind.TokenKind, declared.vocabulary.Word.Word}
 use Rattle.redcode_lines.specs.{Source.{lines_of, directive_of}, Line.{source_line, statement_tokens, without_comment}, Block.line_by, declared.reading.LineForm.LineForm}
 use Rattle.redcode_statement.specs.{Sides.{side_tokens, before_comma, behind_comma, sides_of}, Instruction.instruction_of, Statement.is_bad, InstrLine.{left_in, operand_text, instr_line}}
@@ -32,7 +32,8 @@ abbrev comma : Piece
 comma = piece TokenKind.Symbol (codes ",")
 
 -- tokens that part nothing, with none or a comma after them
-pub parted-front : (xs ys : List Piece) → AllByRecursion IsInside xs → before_comma ys ≡ [] → (before_comma (xs ++ ys) ≡ xs) × (behind_comma (xs ++ ys) ≡ behind_comma ys)
+pub parted-front : (xs ys : List Piece) → AllByRecursion IsInside xs → before_comma ys ≡ []
+    → (before_comma (xs ++ ys) ≡ xs) × (behind_comma (xs ++ ys) ≡ behind_comma ys)
 parted-front [] ys inside none = (none, refl)
 parted-front (x ∷ xs) ys inside none =
     let others = parted-front xs ys inside.1 none in
@@ -52,7 +53,8 @@ sides_of-both core i below most =
     let b_tokens = operand_tokens core i.b_mode i.b in
     let a = parted-front a_tokens (comma ∷ b_tokens) (grind arith, (Spells-signed core i.a below.a most).inside) refl in
     let b_inside : AllByRecursion IsInside b_tokens = (grind arith, (Spells-signed core i.b below.b most).inside) in
-    let b = subst (λ (ts : List Piece). (before_comma ts ≡ b_tokens) × (behind_comma ts ≡ None)) (append-nil b_tokens) (parted-front b_tokens [] b_inside refl) in
+    let b = subst (λ (ts : List Piece). (before_comma ts ≡ b_tokens) × (behind_comma ts ≡ None)) (append-nil b_tokens)
+        (parted-front b_tokens [] b_inside refl) in
     rw (a.0, a.1, b.0, b.1) refl
 
 -- ---- the line

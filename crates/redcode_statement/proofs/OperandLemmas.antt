@@ -1,10 +1,10 @@
 -- The numbers and the operands of the load text, as they are read.
-use Rattle.std.proofs.Common.{◌≡◌, ℕ, zero, suc, ◌-◌, ◌*◌, ◌^◌, ◌≤◌, ◌<◌, false, List, [], ◌∷◌, ◌++◌, length, Option, Ok, ℤ, pos, neg_ℤ, refl, inl, inr, arith, rules, ne_eqb, lt-ltb}
-use Rattle.{std.proofs.Common.{le-ltb, append_assoc, codes}, std.specs.{Prelude.{nat_lt, if◌then◌else◌}, Fmt.decimal, List.{AllByRecursion, take_while}}}
+use Rattle.std.proofs.Common.{◌≡◌, ℕ, zero, suc, ◌-◌, ◌*◌, ◌^◌, ◌≤◌, ◌<◌, false, List, [], ◌∷◌, ◌++◌, length, Option, Ok, ℤ, pos, neg_ℤ, refl, inl, inr, arith}
+use Rattle.std.proofs.Common.{nat_lt, if◌then◌else◌, rules, ne_eqb, lt-ltb, le-ltb, append_assoc, codes}
 use Rattle.std.proofs.{Math.Nat.mod-eq_of_lt, lemmas.Bool.cases_lt, lemmas.Bool.Decides.nat_tests, lemmas.Str.Parse.{IsNumeralModel, numerals_by_fold}}
 use Rattle.std.proofs.lemmas.Fmt.{digits_decimal, digits_value-decimal, decimal_nonempty, length-decimal-le}
 use Rattle.{war_types.specs.declared.instr.Mode.Mode, redcode_text.specs.{Bytes.is_digit, Tokens.{Piece, piece}, Value.{number_from, value_of, value_within}}}
-use Rattle.redcode_text.specs.{Vocabulary.mode_text, declared.token.TokenKind.TokenKind}
+use Rattle.{std.specs.{Fmt.decimal, List.{AllByRecursion, take_while}}, redcode_text.specs.{Vocabulary.mode_text, declared.token.TokenKind.TokenKind}}
 use Rattle.redcode_statement.specs.{Instruction.reduced, Sides.is_comma, InstrLine.{spaces, signed_number, operand_text}}
 use Rattle.redcode_statement.proofs.{LineLemmas.AreInLine, TokenLemmas.{bare, IsDigitByte, Follows, bare-spaces, bare-digits, bare-mode, bare-minus}}
 
@@ -64,9 +64,9 @@ Spells-digits (d ∷ ds) n bytes some value small short =
 pub Spells-decimal : (n : ℕ) → n < 65536
     → Spells (decimal n) (number_token (decimal n) ∷ []) (pos n) × Spells (45 ∷ decimal n) (minus ∷ number_token (decimal n) ∷ []) (neg_ℤ (pos n))
 Spells-decimal n small =
-    let numerals : IsNumeralModel (AllByRecursion IsDigitByte) (number_from 0) = numerals_by_fold (AllByRecursion IsDigitByte) (search rules) number_from (search rules) in
-    Spells-digits (decimal n) n (digits_decimal numerals n (omega arith)) (decimal_nonempty n (omega arith)) (digits_value-decimal numerals n (omega arith)) small
-    (length-decimal-le 5 n (omega arith) (omega arith) (omega arith))
+    let numerals : IsNumeralModel (AllByRecursion IsDigitByte) (number_from 0) = numerals_by_fold _ (search rules) number_from (search rules) in
+    Spells-digits (decimal n) n (digits_decimal numerals n (omega arith)) (decimal_nonempty n (omega arith)) (digits_value-decimal numerals n (omega arith))
+    small (length-decimal-le 5 n (omega arith) (omega arith) (omega arith))
 
 -- the number that the load text gives for an address, and its tokens
 abbrev pub number_of : ℕ → ℕ → ℤ
