@@ -2,16 +2,12 @@
 use Rattle.{std.proofs.Common.{ℕ, ◌<◌, List, [], ◌∷◌, Option, IfOk, arith}, std.specs.List.AllByRecursion}
 use Rattle.{war_types.specs.{declared.settings.RawSettings.RawSettings, Warrior.HasNumbersBelow}, redcode_text.specs.{declared.vocabulary.Word.Word, Tokens.Piece}}
 use Rattle.{redcode_lines.specs.declared.line.LineKind.LineKind, redcode_statement.proofs.Bounds.{HasBounds, below-instruction, below-said}, redcode_names.specs.Name.LabelList}
-use Rattle.{redcode_expand.specs.Expansion.ExpandedLine, redcode_asm.specs.{Said.{said_by, said_by_kind}, Assembly.{Placed, all_said, code_of}}}
-
-below-kind : (s : RawSettings) (labels : LabelList) (kind : LineKind) (word : Option Word) (before : ℕ) (tokens : List Piece) → 0 < s.core
-    → IfOk (said_by_kind s labels kind word before tokens) (HasBounds s.core)
-below-kind s labels kind word before tokens some = grind (arith, below-said, below-instruction)
+use Rattle.{redcode_expand.specs.Expansion.ExpandedLine, redcode_asm.specs.{Said.{said_by}, Assembly.{Placed, all_said, code_of}}}
 
 below-said_by : (s : RawSettings) (labels : LabelList) (kind : LineKind) (word : Option Word) (before : ℕ) (tokens : List Piece) → 0 < s.core
     → IfOk (said_by s labels kind word before tokens) (HasBounds s.core)
 unfolding said_by
-below-said_by s labels kind word before tokens some = grind (arith, below-kind)
+below-said_by s labels kind word before tokens some = grind (arith, below-said, below-instruction)
 
 -- ---- all lines
 
