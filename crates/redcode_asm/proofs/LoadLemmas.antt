@@ -4,9 +4,9 @@ use Rattle.{std.specs.{Fmt.decimal, List.{AllByRecursion, flat_map}}, std.proofs
 use Rattle.{war_types.specs.{declared.instr.Instr.Instr, declared.settings.RawSettings.RawSettings, Warrior.{WarriorParts, HasNumbersBelow}}, redcode_text.specs.declared.vocabulary.Word.Word}
 use Rattle.{redcode_text.specs.{Tokens.{Piece, piece}, declared.token.TokenKind.TokenKind}, redcode_lines.specs.{declared.line.LineKind.LineKind, Source.{lines_of, numbered_from, redcode_on}}}
 use Rattle.redcode_lines.specs.{Line.{SourceLine, source_line, statement_tokens, without_comment}, Block.{source_lines, parsed}, declared.reading.LineForm.LineForm}
-use Rattle.{redcode_statement.specs.InstrLine.instr_line, redcode_statement.proofs.{LineLemmas.{in_line-append, lines_of-line}, TokenLemmas.bare-is, OperandLemmas.{Spells-decimal, number_token}}}
+use Rattle.{redcode_statement.specs.InstrLine.instr_line, redcode_statement.proofs.{LineLemmas.lines_of-line, TokenLemmas.bare-is, OperandLemmas.{Spells-decimal, number_token}}}
 use Rattle.redcode_statement.proofs.InstrLemmas.{both_tokens, instr_tokens, length-both, directive_of-line, line_by-line, lines_of-instr, length-line}
-use Rattle.{redcode_names.specs.{Equ.has_equ, Name.names_of}, redcode_names.proofs.Unchanged.tokens-same}
+use Rattle.{redcode_names.specs.{Name.names_of}, redcode_names.proofs.Unchanged.tokens-same}
 use Rattle.{redcode_expand.specs.{Walk.{ExpandedLine, walk_state, walk}, Expansion.{expansion, all_replaced}}, redcode_asm.specs.LoadText.load_text}
 use Rattle.redcode_lines.specs.declared.line.LineKind.TheVariants as lines
 
@@ -41,20 +41,17 @@ load_lines core w = line 1 lines.Org Word.Org 0 (org_tokens w.start) ∷ code_li
 -- ---- the source
 
 -- a text without a ;redcode line that is these lines
-pub record ReadsAs (text : List ℕ) (n : ℕ) (source : List SourceLine) : Type 0 where
-  pub no_redcode : redcode_on (numbered_from n (lines_of text)) ≡ None
-  pub source_is : source_lines (numbered_from n (lines_of text)) ≡ source
+abbrev ReadsAs : List ℕ → ℕ → List SourceLine → Type 0
+ReadsAs text n source = (redcode_on (numbered_from n (lines_of text)) ≡ None) × (source_lines (numbered_from n (lines_of text)) ≡ source)
 
-ReadsAs-code : (core n : ℕ) (code : List Instr) → AllByRecursion (HasNumbersBelow core) code → core ≤ 65535 → ReadsAs (flat_map (instr_line core) code ++ codes "END\n") n (code_source core n code)
-ReadsAs-code core n [] below most = record { no_redcode = refl; source_is = refl }
+ReadsAs-code : (core n : ℕ) (code : List Instr) → AllByRecursion (HasNumbersBelow core) code → core ≤ 65535
+    → ReadsAs (flat_map (instr_line core) code ++ codes "END\n") n (code_source core n code)
+ReadsAs-code core n [] below most = (refl, refl)
 ReadsAs-code core n (i ∷ is) below most =
     let others = flat_map (instr_line core) is ++ codes "END\n" in
     let cut = ap lines_of (append_assoc (instr_line core i) (flat_map (instr_line core) is) (codes "END\n")) ∙ lines_of-instr core i others below.0 most in
     let behind = ReadsAs-code core (n + 1) is below.1 most in
-    record {
-      no_redcode = rw (cut, directive_of-line core i) behind.no_redcode;
-      source_is = rw (cut, line_by-line core n i below.0 most, behind.source_is) refl;
-    }
+    (rw (cut, directive_of-line core i) behind.0, rw (cut, line_by-line core n i below.0 most, behind.1) refl)
 
 statement_tokens-org : (start : ℕ) → start < 65536 → statement_tokens (codes "ORG " ++ decimal start) ≡ org_tokens start
 statement_tokens-org start small =
@@ -67,18 +64,14 @@ unfolding load_text
 lines_of-load core w small =
     let org = codes "ORG " ++ decimal w.start in
     let code = flat_map (instr_line core) w.code in
-    let inside = in_line-append (codes "ORG ") (decimal w.start) (refl, (refl, (refl, (refl, tt)))) (Spells-decimal w.start small).0.in_line in
     ap lines_of (append_assoc (org ++ codes "\n") code (codes "END\n") ∙ append_assoc org (codes "\n") (code ++ codes "END\n"))
-    ∙ lines_of-line org (code ++ codes "END\n") inside
+    ∙ lines_of-line org (code ++ codes "END\n") (Spells-decimal w.start small).0.in_line
 
 ReadsAs-load : (core : ℕ) (w : WarriorParts) → AllByRecursion (HasNumbersBelow core) w.code → core ≤ 65535 → w.start < 65536
     → ReadsAs (load_text core w) 1 (source 1 Word.Org (org_tokens w.start) ∷ code_source core 2 w.code)
 ReadsAs-load core w below most small =
     let behind = ReadsAs-code core 2 w.code below most in
-    record {
-      no_redcode = rw (lines_of-load core w small) behind.no_redcode;
-      source_is = rw (lines_of-load core w small, statement_tokens-org w.start small, behind.source_is) refl;
-    }
+    (rw (lines_of-load core w small) behind.0, rw (lines_of-load core w small, statement_tokens-org w.start small, behind.1) refl)
 
 -- ---- the walk
 
@@ -94,16 +87,12 @@ walk-code s n counted before done (i ∷ is) few =
 
 -- ---- without an EQU the lines stay as they are
 
-has_equ-none : (tokens : List Piece) → has_equ [] tokens ≡ false
-has_equ-none [] = refl
-has_equ-none (token ∷ tokens) = grind (arith, has_equ-none tokens)
-
 all_replaced-code : (core n before : ℕ) (code : List Instr) → all_replaced [] (code_lines core n before code) ≡ Ok (code_lines core n before code)
 all_replaced-code core n before [] = rw (tokens-same n [] [] refl (omega arith)) refl
 all_replaced-code core n before (i ∷ is) =
     let both = both_tokens core i in
     let front : suc (suc (suc (length both))) - length both ≡ 3 = omega arith in
-    rw (tokens-same n [] both (has_equ-none both) (omega (arith, length-both core i)), front, all_replaced-code core (n + 1) (before + 1) is) refl
+    rw (tokens-same n [] both (grind arith) (omega (arith, length-both core i)), front, all_replaced-code core (n + 1) (before + 1) is) refl
 
 -- ---- the expansion
 
@@ -131,4 +120,4 @@ expansion-load_text s w below most small few =
     let walked = walk-code s 2 1 0 (org ∷ []) w.code (omega arith) in
     let short : length (load_text s.core w) ≤ 65536 = omega (arith, length-load_text s.core w below most small) in
     let replaced = tokens-same 1 [] (number_token (decimal w.start) ∷ []) refl (omega arith) in
-    rw (le-ltb 65536 (length (load_text s.core w)) short, reads.no_redcode, reads.source_is, walked.2, replaced, all_replaced-code s.core 2 0 w.code) refl
+    rw (le-ltb 65536 (length (load_text s.core w)) short, reads.0, reads.1, walked.2, replaced, all_replaced-code s.core 2 0 w.code) refl

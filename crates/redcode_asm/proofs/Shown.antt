@@ -1,17 +1,14 @@
 -- What is shown of an expansion gives the same warrior, or the same refusal.
-use Rattle.std.proofs.Common.{◌≡◌, ℕ, zero, suc, Bool, ◌||◌, List, [], ◌∷◌, ◌++◌, take, drop, unwrap_or, codes, Option, Result, Ok, Err, refl, sym, ap, ◌∙◌, arith, inl, inr}
-use Rattle.{std.proofs.lemmas.Bool.cases_Bool, std.specs.{List.list_any, Option.option_or}, war_types.specs.{declared.fault.AsmFault.AsmFault, declared.settings.RawSettings.RawSettings, Title.title_of, Warrior.{WarriorParts, warrior_parts}}}
+use Rattle.std.proofs.Common.{◌≡◌, ℕ, zero, suc, Bool, ◌||◌, List, [], ◌∷◌, ◌++◌, take, drop, Option, Result, Ok, Err, refl, sym, ap, ◌∙◌, arith}
+use Rattle.{std.specs.{List.list_any, Option.option_or}, war_types.specs.{declared.fault.AsmFault.AsmFault, declared.settings.RawSettings.RawSettings}}
 use Rattle.{redcode_text.specs.Tokens.Piece, redcode_lines.specs.{Line.is_bad, declared.line.LineKind.LineKind}, redcode_statement.specs.Chain.◌>>=◌, redcode_names.specs.{Name.LabelList, Gives.Fails}}
 use Rattle.redcode_expand.specs.{Expansion.{Expansion, ExpandedLine, expansion}, Cut.{cut_tokens, first_bad, shown, shown_line, shown_lines, with_shown}}
-use Rattle.redcode_asm.specs.{Said.{said_by, said_by_kind, statement_of}, Assembly.{Placed, all_said, author_of, checked_start, code_of, last_text, name_of, title_if, is_name, is_author, assembly, assembly_of, warrior_said}}
+use Rattle.redcode_asm.specs.{Said.{said_by, statement_of}, Assembly.{Placed, all_said, last_text, title_if, is_name, is_author, assembly, assembly_of, warrior_said}}
 use Rattle.redcode_lines.specs.declared.line.LineKind.TheVariants as lines
 
 bad-first : (ts : List Piece) → list_any is_bad (first_bad ts) ≡ list_any is_bad ts
 bad-first [] = refl
-bad-first (t ∷ ts) = elim (cases_Bool (is_bad t)) [
-  | inl bad ↦ rw (bad, bad) refl
-  | inr good ↦ rw good (bad-first ts)
-]
+bad-first (t ∷ ts) = grind (arith, bad-first ts)
 
 bad-among : (n : ℕ) (ts : List Piece) → list_any is_bad (take n ts ++ first_bad (drop n ts)) ≡ list_any is_bad ts
 bad-among zero ts = bad-first ts
@@ -20,13 +17,10 @@ bad-among (suc n) (t ∷ ts) = ap (λ (b : Bool). is_bad t || b) (bad-among n ts
 
 statement-shown : (s : RawSettings) (labels : LabelList) (kind : LineKind) (line : ExpandedLine) → line.kind ≡ kind → statement_of s labels (shown_line line) ≡ statement_of s labels line
 unfolding said_by cut_tokens
-statement-shown s labels lines.Operation line is = rw is refl
-statement-shown s labels lines.Org line is = rw is refl
-statement-shown s labels lines.End line is = rw is refl
-statement-shown s labels lines.Assert line is = rw is refl
 statement-shown s labels lines.Name line is = rw (is, bad-among 516 line.tokens) refl
 statement-shown s labels lines.Author line is = rw (is, bad-among 516 line.tokens) refl
 statement-shown s labels lines.Other line is = rw (is, bad-among 516 line.tokens) refl
+statement-shown s labels _ line is = rw is refl
 
 said-shown : (s : RawSettings) (labels : LabelList) (ls : List ExpandedLine) → all_said s labels (shown_lines ls) ≡ all_said s labels ls
 said-shown s labels [] = refl
@@ -36,20 +30,12 @@ text-shown : (is_kind : LineKind → Bool) (ls : List ExpandedLine) → last_tex
 text-shown is_kind [] = refl
 text-shown is_kind (l ∷ ls) = ap (λ (o : Option (List ℕ)). option_or o (title_if (is_kind l.kind) l.title)) (text-shown is_kind ls)
 
--- the warrior of lines that say this
-warrior-shown : (s : RawSettings) (ls : List ExpandedLine) (said : List Placed) → warrior_said s (shown_lines ls) said ≡ warrior_said s ls said
-warrior-shown s ls said =
-    let made : List ℕ → List ℕ → Result WarriorParts AsmFault = λ name author. checked_start s.length said >>= λ start. Ok (warrior_parts (code_of said) start name author) in
-    ap (λ (o : Option (List ℕ)). made (title_of (unwrap_or o []) (codes "Unnamed")) (author_of (shown_lines ls))) (text-shown is_name ls)
-    ∙ ap (λ (o : Option (List ℕ)). made (name_of ls) (title_of (unwrap_or o []) (codes "Anonymous"))) (text-shown is_author ls)
-
 then-shown : (s : RawSettings) (ls : List ExpandedLine) (m : Result (List Placed) AsmFault) → m >>= warrior_said s (shown_lines ls) ≡ m >>= warrior_said s ls
-then-shown s ls (Ok said) = warrior-shown s ls said
+then-shown s ls (Ok said) = rw (text-shown is_name ls, text-shown is_author ls) refl
 then-shown s ls (Err fault) = refl
 
 assembly-shown : (s : RawSettings) (e : Expansion) → assembly_of s (shown e) ≡ assembly_of s e
-assembly-shown s e =
-    ap (λ (m : Result (List Placed) AsmFault). m >>= warrior_said s (shown_lines e.lines)) (said-shown s e.labels e.lines) ∙ then-shown s e.lines (all_said s e.labels e.lines)
+assembly-shown s e = rw (said-shown s e.labels e.lines) (then-shown s e.lines (all_said s e.labels e.lines))
 
 by-shown : (s : RawSettings) (m : Result Expansion AsmFault) (e : Expansion) → with_shown m ≡ Ok (shown e) → m >>= assembly_of s ≡ assembly_of s e
 by-shown s (Ok b) e is =
@@ -57,15 +43,12 @@ by-shown s (Ok b) e is =
     sym (assembly-shown s b) ∙ ap (assembly_of s) same ∙ assembly-shown s e
 by-shown s (Err fault) e is = absurd cc
 
--- an expansion of which is shown what is due gives the warrior that is due
+-- an expansion that shows what is due gives the warrior that is due
 pub assembly-due : (s : RawSettings) (source : List ℕ) (e : Expansion) → with_shown (expansion s source) ≡ Ok (shown e) → assembly s source ≡ assembly_of s e
 unfolding assembly
 assembly-due s source e is = by-shown s (expansion s source) e is
 
-fails-shown : (s : RawSettings) (m : Result Expansion AsmFault) (fault : AsmFault) → Fails fault (with_shown m) → Fails fault (m >>= assembly_of s)
-fails-shown s m fault h = grind arith
-
 -- and one that fails the refusal
 pub assembly-fails : (s : RawSettings) (source : List ℕ) (fault : AsmFault) → Fails fault (with_shown (expansion s source)) → Fails fault (assembly s source)
 unfolding assembly
-assembly-fails s source fault h = fails-shown s (expansion s source) fault h
+assembly-fails s source fault h = grind arith

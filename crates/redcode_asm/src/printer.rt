@@ -8,8 +8,8 @@ use redcode_statement::append_line;
 use std::alloc::{AllocError, Allocator};
 use war_types::Warrior;
 
-/// The load text of a warrior: its start and its code, without its name and its author. The numbers are those of a
-/// core of this size. It fails only when memory runs out.
+/// The load text of a warrior: its start and its code, without its name and its author. The numbers are below this core
+/// size. It fails only when memory runs out.
 #[tactic(auto, unfolding(crate::specs::LoadText::load_text))]
 pub fn load_text<A: Allocator + Copy, B: Allocator>(
     alloc: A,

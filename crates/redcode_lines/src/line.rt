@@ -1,7 +1,7 @@
 //! Lines: the text of one by its number, and the lines of an expanded source.
 
 ghost use Rattle.std.specs.Prelude.{◌≡◌};
-ghost use Rattle.redcode_lines.specs.{Place.{line_behind, line_text, without_return}, Source.lines_of};
+ghost use Rattle.redcode_lines.specs.{Place.{line_behind, line_text}, Source.lines_of};
 
 use crate::source::first_line;
 
@@ -42,7 +42,10 @@ pub fn line_text(source: &[u8], line: u32) -> &[u8]
     if line == 0 {
         return &[];
     }
-    without_return(line_behind(source, line - 1))
+    match line_behind(source, line - 1) {
+        [front @ .., b'\r'] => front,
+        text => text,
+    }
 }
 
 /// The line after `count` others; empty if there is none.
@@ -60,14 +63,4 @@ fn line_behind(source: &[u8], count: u32) -> &[u8]
         left -= 1;
     }
     &[]
-}
-
-/// A line without the carriage return at its end.
-fn without_return(line: &[u8]) -> &[u8]
-    ensures { result.now ≡ without_return line.entry.now }
-{
-    match line {
-        [front @ .., b'\r'] => front,
-        _ => line,
-    }
 }

@@ -1,8 +1,8 @@
 //! How a line is read: its labels, its word, and what is after them; and which tokens of an expanded line are operands.
 
-ghost use Rattle.std.specs.Prelude.{◌≡◌, ◌≤◌, drop, length};
+ghost use Rattle.std.specs.Prelude.{◌≡◌, ◌≤◌, if◌then◌else◌, is_some, [], take, drop, length};
 ghost use Rattle.redcode_text.specs.Tokens.{piece_of, pieces};
-ghost use Rattle.redcode_lines.specs.{Line.{behind_labels, dropped_while, has_and, has_text, is_name, is_name_token, labels_of, line_word, names_among, tokens_from_word, word_at}};
+ghost use Rattle.redcode_lines.specs.{Line.{behind_labels, dropped_while, has_and, has_text, is_front, is_name, is_name_token, labels_of, line_word, names_among, taken_while, tokens_from_word, word_at}};
 ghost use Rattle.redcode_lines.specs.{Operand.{operands_of, behind_modifier}, Views.line_read};
 
 use crate::line::LineKind;
@@ -44,10 +44,7 @@ impl<'l, 's> Reading<'l, 's> {
     {
         match self.word {
             Some(_) => self.front,
-            None => {
-                let behind = behind_names(self.tokens);
-                &self.tokens[..self.tokens.len() - behind.len()]
-            }
+            None => &self.tokens[..names_before(self.tokens)],
         }
     }
 
@@ -62,23 +59,22 @@ impl<'l, 's> Reading<'l, 's> {
     }
 }
 
-/// The word of a statement of these tokens, and the tokens from it on; all tokens if there is no word.
-pub(crate) fn from_word<'t, 's>(tokens: &'t [Token<'s>]) -> (Option<Word>, &'t [Token<'s>])
-    ensures word { result.0 ≡ line_word (pieces tokens.entry.now) }
-    ensures from { pieces result.1.now ≡ tokens_from_word (pieces tokens.entry.now) }
-    ensures short { length result.1.now ≤ length tokens.entry.now }
+/// The word of a statement of these tokens, and how many tokens stand before it; 0 if there is no word.
+pub(crate) fn word_in(tokens: &[Token<'_>]) -> (Option<Word>, usize)
+    ensures word { result.0 ≡ line_word (pieces tokens.now) }
+    ensures front { pieces (take result.1 tokens.now) ≡ (if is_some result.0 then taken_while is_front (pieces tokens.now) else []) }
+    ensures from { pieces (drop result.1 tokens.now) ≡ tokens_from_word (pieces tokens.now) }
+    ensures within { result.1 ≤ length tokens.now }
 {
-    let mut rest = tokens;
-    while let [first, behind @ ..] = rest {
-        if let Some(word) = word_at(first) {
-            return (Some(word), rest);
+    for (i, token) in tokens.iter().enumerate() {
+        if let Some(word) = word_at(token) {
+            return (Some(word), i);
         }
-        if !is_name(first) && !has_text(first, b"&") && !has_text(first, b":") {
+        if !is_name(token) && !has_text(token, b"&") && !has_text(token, b":") {
             break;
         }
-        rest = behind;
     }
-    (None, tokens)
+    (None, 0)
 }
 
 /// From the first token on that is no name.
@@ -86,12 +82,21 @@ pub fn behind_names<'t, 's>(tokens: &'t [Token<'s>]) -> &'t [Token<'s>]
     ensures behind { pieces result.now ≡ dropped_while is_name_token (pieces tokens.entry.now) }
     ensures short { length result.now ≤ length tokens.entry.now }
 {
+    &tokens[names_before(tokens)..]
+}
+
+/// How many names stand at the front.
+fn names_before(tokens: &[Token<'_>]) -> usize
+    ensures names { pieces (take result tokens.now) ≡ taken_while is_name_token (pieces tokens.now) }
+    ensures behind { pieces (drop result tokens.now) ≡ dropped_while is_name_token (pieces tokens.now) }
+    ensures within { result ≤ length tokens.now }
+{
     for (i, token) in tokens.iter().enumerate() {
         if !is_name(token) {
-            return &tokens[i..];
+            return i;
         }
     }
-    &[]
+    tokens.len()
 }
 
 /// The reserved word that a token is.

@@ -4,7 +4,7 @@ ghost use Rattle.std.specs.Prelude.{◌≡◌, ◌+◌, ◌≤◌, ◌<◌, ◌+
 ghost use Rattle.{redcode_text.specs.Tokens.pieces, redcode_lines.specs.{Source.{directive_of, lines_of, numbered_from}, Line.{source_line, statement, statement_tokens, without_comment}}};
 ghost use Rattle.redcode_lines.specs.Block.{directive_line, line_by, source_lines};
 
-use crate::reading::{LineForm, Reading, from_word};
+use crate::reading::{LineForm, Reading, word_in};
 use crate::source::{Directive, directive_of, first_line};
 use redcode_text::{Token, TokenKind, Word, scan};
 use std::alloc::{AllocError, Allocator};
@@ -124,19 +124,16 @@ fn append_directive<'s, A: Allocator + Copy>(
     requires { length text.now ≤ 65536 }
     ensures { OnOk result (lines.new.items ≡ lines.old.items ++ directive_line number directive text.entry.now) }
 {
-    match directive {
-        Directive::Redcode | Directive::Remark => {}
-        Directive::Name => {
-            lines.push(wordless(number, LineForm::Name, text, Vec::new(alloc)))?;
-        }
-        Directive::Author => {
-            lines.push(wordless(number, LineForm::Author, text, Vec::new(alloc)))?;
-        }
+    let line = match directive {
+        Directive::Redcode | Directive::Remark => return Ok(()),
+        Directive::Name => wordless(number, LineForm::Name, text, Vec::new(alloc)),
+        Directive::Author => wordless(number, LineForm::Author, text, Vec::new(alloc)),
         Directive::Assert => {
             let tokens = statement_tokens(alloc, text)?;
-            lines.push(wordless(number, LineForm::Assert, b"", tokens))?;
+            wordless(number, LineForm::Assert, b"", tokens)
         }
-    }
+    };
+    lines.push(line)?;
     Ok(())
 }
 
@@ -169,8 +166,7 @@ fn before_comment(tokens: &[Token<'_>]) -> usize
 fn statement<'s, A: Allocator>(number: u32, tokens: Vec<Token<'s>, A>) -> SourceLine<'s, A>
     ensures { result ≡ statement number (pieces tokens.entry.items) }
 {
-    let (word, rest) = from_word(tokens.as_slice());
-    let front = tokens.len() - rest.len();
+    let (word, front) = word_in(tokens.as_slice());
     SourceLine {
         number,
         form: LineForm::Statement,

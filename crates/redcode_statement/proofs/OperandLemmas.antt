@@ -1,18 +1,18 @@
 -- The numbers and the operands of the load text, as they are read.
-use Rattle.std.proofs.Common.{◌≡◌, ℕ, zero, suc, ◌-◌, ◌*◌, ◌^◌, ◌≤◌, ◌<◌, true, false, List, [], ◌∷◌, ◌++◌, length, Option, Ok, ℤ, pos, neg_ℤ, refl, inl, inr, arith, rules, ne_eqb, lt-ltb}
-use Rattle.{std.proofs.Common.{le-ltb, append_assoc, codes}, std.specs.{Prelude.{nat_lt, if◌then◌else◌}, Fmt.decimal, List.{AllByRecursion, take_while}, Str.Parse.{AllDigits, IsNumeral}}}
-use Rattle.std.proofs.{Math.Nat.mod-eq_of_lt, lemmas.Bool.cases_lt, lemmas.Bool.Decides.nat_tests, lemmas.List.{length-append, length-replicate}}
-use Rattle.std.proofs.{lemmas.Fmt.{decimal_is_IsNumeral, digits_value-decimal, length-decimal-le}, lemmas.Str.Parse.{IsNumeralModel, numerals_by_fold, tells_digits, digit_from_value}}
-use Rattle.{war_types.specs.declared.instr.Mode.Mode, redcode_text.specs.{Bytes.is_digit, Tokens.{Piece, piece}, Operators.negated, Value.{number_from, value_of, value_within}}}
-use Rattle.{redcode_text.specs.{Vocabulary.mode_text, declared.token.TokenKind.TokenKind}, redcode_lines.specs.Line.is_no_comment}
-use Rattle.redcode_statement.specs.{Operand.operand_of, Instruction.reduced, Sides.is_comma, Statement.is_bad, InstrLine.{spaces, signed_number, operand_text}}
-use Rattle.redcode_statement.proofs.{LineLemmas.{AreInLine, in_line-append}, TokenLemmas.{bare, IsDigitByte, Follows, bare-spaces, bare-digits, bare-mode, bare-minus}}
+use Rattle.std.proofs.Common.{◌≡◌, ℕ, zero, suc, ◌-◌, ◌*◌, ◌^◌, ◌≤◌, ◌<◌, false, List, [], ◌∷◌, ◌++◌, length, Option, Ok, ℤ, pos, neg_ℤ, refl, inl, inr, arith}
+use Rattle.std.proofs.Common.{nat_lt, if◌then◌else◌, rules, ne_eqb, lt-ltb, le-ltb, append_assoc, codes}
+use Rattle.std.proofs.{Math.Nat.mod-eq_of_lt, lemmas.Bool.cases_lt, lemmas.Bool.Decides.nat_tests, lemmas.Str.Parse.{IsNumeralModel, numerals_by_fold}}
+use Rattle.std.proofs.lemmas.Fmt.{digits_decimal, digits_value-decimal, decimal_nonempty, length-decimal-le}
+use Rattle.{war_types.specs.declared.instr.Mode.Mode, redcode_text.specs.{Bytes.is_digit, Tokens.{Piece, piece}, Value.{number_from, value_of, value_within}}}
+use Rattle.{std.specs.{Fmt.decimal, List.{AllByRecursion, take_while}}, redcode_text.specs.{Vocabulary.mode_text, declared.token.TokenKind.TokenKind}}
+use Rattle.redcode_statement.specs.{Instruction.reduced, Sides.is_comma, InstrLine.{spaces, signed_number, operand_text}}
+use Rattle.redcode_statement.proofs.{LineLemmas.AreInLine, TokenLemmas.{bare, IsDigitByte, Follows, bare-spaces, bare-digits, bare-mode, bare-minus}}
 
 -- ---- numbers
 
--- a token of the language that parts nothing
+-- a token that parts nothing
 abbrev pub IsInside : Piece → Type 0
-IsInside token = (is_bad token ≡ false) × (is_comma token ≡ false) × (is_no_comment token ≡ true)
+IsInside token = is_comma token ≡ false
 
 -- a short text in one line whose tokens stand for a number
 pub record Spells (text : List ℕ) (tokens : List Piece) (z : ℤ) : Type 0 where
@@ -29,26 +29,17 @@ number_token digits = piece TokenKind.Number digits
 abbrev minus : Piece
 minus = piece TokenKind.Symbol (codes "-")
 
--- a text of digits has digit bytes only
-digit_bytes : (ds : List ℕ) → AllDigits 10 ds → AllByRecursion IsDigitByte ds
-digit_bytes [] all = tt
-digit_bytes (d ∷ ds) all = (digit_from_value d all.0, digit_bytes ds all.1)
-
 in_line-digits : (ds : List ℕ) → AllByRecursion IsDigitByte ds → AreInLine ds
-in_line-digits [] all = tt
-in_line-digits (d ∷ ds) all = (ne_eqb d 10 (λ e. omega (arith, all.0)), in_line-digits ds all.1)
-
-negated-small : (n : ℕ) → n < 65536 → negated (Ok (pos n)) ≡ Ok (neg_ℤ (pos n))
-negated-small n small = grind (arith, nat_tests)
+in_line-digits [] all = refl
+in_line-digits (d ∷ ds) all = rw (ne_eqb d 10 (λ e. omega (arith, all.0))) (in_line-digits ds all.1)
 
 -- few digits, alone and after a minus sign
-Spells-digits : (ds : List ℕ) (n : ℕ) → IsNumeral 10 ds → number_from 0 ds ≡ n → n < 65536 → length ds ≤ 5
+Spells-digits : (ds : List ℕ) (n : ℕ) → AllByRecursion IsDigitByte ds → 0 < length ds → number_from 0 ds ≡ n → n < 65536 → length ds ≤ 5
     → Spells ds (number_token ds ∷ []) (pos n) × Spells (45 ∷ ds) (minus ∷ number_token ds ∷ []) (neg_ℤ (pos n))
 unfolding value_within
-Spells-digits [] n numeral value small short = absurd (omega (arith, numeral.0))
-Spells-digits (d ∷ ds) n numeral value small short =
-    let bytes = digit_bytes (d ∷ ds) numeral.1 in
-    let inside : IsInside (number_token (d ∷ ds)) = (refl, rw (ne_eqb d 44 (λ e. omega (arith, bytes.0))) refl, refl) in
+Spells-digits [] n bytes some value small short = absurd (omega arith)
+Spells-digits (d ∷ ds) n bytes some value small short =
+    let inside : IsInside (number_token (d ∷ ds)) = rw (ne_eqb d 44 (λ e. omega (arith, bytes.0))) refl in
     let follows : Follows (d ∷ ds) = ne_eqb d 61 (λ e. omega (arith, bytes.0)) in
     let in_line = in_line-digits (d ∷ ds) bytes in (
       record {
@@ -61,10 +52,10 @@ Spells-digits (d ∷ ds) n numeral value small short =
       },
       record {
         cut = λ rest stops. rw (bare-minus (d ∷ (ds ++ rest)) follows, bare-digits d ds rest bytes stops) refl;
-        inside = ((refl, refl, refl), (inside, tt));
-        value = λ names. rw (value, lt-ltb n (2 ^ 63) (omega arith)) (negated-small n small);
+        inside = (refl, (inside, tt));
+        value = λ names. rw (value, lt-ltb n (2 ^ 63) (omega arith)) (grind (arith, nat_tests));
         follows = refl;
-        in_line = (refl, in_line);
+        in_line = in_line;
         short = omega arith;
       },
     )
@@ -73,9 +64,9 @@ Spells-digits (d ∷ ds) n numeral value small short =
 pub Spells-decimal : (n : ℕ) → n < 65536
     → Spells (decimal n) (number_token (decimal n) ∷ []) (pos n) × Spells (45 ∷ decimal n) (minus ∷ number_token (decimal n) ∷ []) (neg_ℤ (pos n))
 Spells-decimal n small =
-    let numerals : IsNumeralModel (AllDigits 10) (number_from 0) = numerals_by_fold (AllDigits 10) tells_digits number_from (search rules) in
-    Spells-digits (decimal n) n (decimal_is_IsNumeral n (omega arith)).0 (digits_value-decimal numerals n (omega arith)) small
-    (length-decimal-le 5 n (omega arith) (omega arith) (omega arith))
+    let numerals : IsNumeralModel (AllByRecursion IsDigitByte) (number_from 0) = numerals_by_fold _ (search rules) number_from (search rules) in
+    Spells-digits (decimal n) n (digits_decimal numerals n (omega arith)) (decimal_nonempty n (omega arith)) (digits_value-decimal numerals n (omega arith))
+    small (length-decimal-le 5 n (omega arith) (omega arith) (omega arith))
 
 -- the number that the load text gives for an address, and its tokens
 abbrev pub number_of : ℕ → ℕ → ℤ
@@ -101,17 +92,14 @@ reduced-number core n below = grind (arith, nat_tests, mod-eq_of_lt)
 abbrev pub operand_tokens : ℕ → Mode → ℕ → List Piece
 operand_tokens core mode n = piece TokenKind.Symbol (mode_text mode) ∷ number_tokens core n
 
-Follows-spaces : (k : ℕ) (text : List ℕ) → Follows text → Follows (spaces k ++ text)
-Follows-spaces zero text h = h
-Follows-spaces (suc k) text h = refl
-
-Follows-append : (xs ys : List ℕ) → Follows xs → Follows (xs ++ ys)
-Follows-append [] ys h = absurd h
-Follows-append (x ∷ xs) ys h = h
+Follows-number : (k : ℕ) (text rest : List ℕ) → Follows text → Follows (spaces k ++ (text ++ rest))
+Follows-number zero [] rest h = absurd h
+Follows-number zero (c ∷ cs) rest h = h
+Follows-number (suc k) text rest h = refl
 
 pub in_line-spaces : (k : ℕ) → AreInLine (spaces k)
-in_line-spaces zero = tt
-in_line-spaces (suc k) = (refl, in_line-spaces k)
+in_line-spaces zero = refl
+in_line-spaces (suc k) = in_line-spaces k
 
 -- an operand's text gives its tokens
 pub bare-operand : (core : ℕ) (mode : Mode) (n : ℕ) (rest : List ℕ) → n < core → core ≤ 65535 → take_while is_digit rest ≡ []
@@ -120,31 +108,5 @@ bare-operand core mode n rest below most stops =
     let text = signed_number core n in
     let spelled = Spells-signed core n below most in
     let blanks = spaces (6 - length text) in
-    let follows = Follows-spaces (6 - length text) (text ++ rest) (Follows-append text rest spelled.follows) in
+    let follows = Follows-number (6 - length text) text rest spelled.follows in
     simp append_assoc (rw (bare-mode mode (blanks ++ (text ++ rest)) follows, bare-spaces (6 - length text) (text ++ rest), spelled.cut rest stops) refl)
-
--- they part nothing
-pub inside-operand : (core : ℕ) (mode : Mode) (n : ℕ) → n < core → core ≤ 65535 → AllByRecursion IsInside (operand_tokens core mode n)
-inside-operand core mode n below most =
-    let number = (Spells-signed core n below most).inside in
-    grind arith
-
--- and are read as the mode and the number
-pub operand_of-operand : (names : List ℕ → Option ℤ) (core : ℕ) (mode : Mode) (n : ℕ) → n < core → core ≤ 65535
-    → operand_of names (operand_tokens core mode n) ≡ record { mode = mode; value = Ok (number_of core n) }
-operand_of-operand names core mode n below most =
-    let value = (Spells-signed core n below most).value names in
-    grind arith
-
--- the text has no line feed
-pub in_line-operand : (core : ℕ) (mode : Mode) (n : ℕ) → n < core → core ≤ 65535 → AreInLine (operand_text core mode n)
-in_line-operand core mode n below most =
-    let text = signed_number core n in
-    let number = in_line-append (spaces (6 - length text)) text (in_line-spaces (6 - length text)) (Spells-signed core n below most).in_line in
-    grind arith
-
--- and takes 7 places
-pub length-operand : (core : ℕ) (mode : Mode) (n : ℕ) → n < core → core ≤ 65535 → length (operand_text core mode n) ≡ 7
-length-operand core mode n below most =
-    let short = (Spells-signed core n below most).short in
-    grind (arith, length-append, length-replicate)

@@ -1,6 +1,6 @@
 -- The tokens of a text, one after another.
-use Rattle.std.proofs.Common.{◌≡◌, ℕ, zero, suc, ◌==◌, true, false, List, [], ◌∷◌, ◌++◌, length, map, refl, ◌∙◌, arith, take_at, drop_at, inl, inr, codes}
-use Rattle.{std.specs.{List.{AllByRecursion, take_while}, Int.IsInRange}, std.proofs.{lemmas.Bool.cases_Bool, lemmas.Bool.Decides.nat_tests, lemmas.List.Sums.take_while-cons}}
+use Rattle.std.proofs.Common.{◌≡◌, ℕ, zero, suc, ◌==◌, true, false, List, [], ◌∷◌, ◌++◌, length, map, refl, ◌∙◌, arith, take_at, drop_at, codes}
+use Rattle.{std.specs.{List.{AllByRecursion, take_while}, Int.IsInRange}, std.proofs.{lemmas.Bool.Decides.nat_tests, lemmas.List.Sums.take_while-cons}}
 use Rattle.{war_types.specs.{Title.is_blank, declared.instr.Mode.Mode}, redcode_text.specs.{Bytes.{is_digit, is_letter}, Tokens.{Piece, piece, without_place, rest_of_token, tokens_after, pieces_of}}}
 use Rattle.{redcode_text.specs.{Vocabulary.mode_text, declared.token.TokenKind.TokenKind}, redcode_text.proofs.Scanning.tokens_after-drop, redcode_statement.specs.InstrLine.spaces}
 
@@ -12,11 +12,7 @@ bare text = map without_place (tokens_after 0 0 text)
 placeless : (m n skip : ℕ) (bs : List ℕ) → map without_place (tokens_after m skip bs) ≡ map without_place (tokens_after n skip bs)
 placeless m n skip [] = refl
 placeless m n (suc skip) (b ∷ bs) = placeless m n skip bs
-placeless m n zero (b ∷ bs) =
-    elim (cases_Bool (is_blank b)) [
-      | inl blank ↦ rw blank (placeless m n 0 bs)
-      | inr other ↦ rw (other, placeless m n (rest_of_token b bs) bs) refl
-    ]
+placeless m n zero (b ∷ bs) = grind (arith, placeless m n 0 bs, placeless m n (rest_of_token b bs) bs)
 
 pub bare-is : (line : List ℕ) → pieces_of line ≡ bare line
 bare-is line = placeless (length line) 0 0 line

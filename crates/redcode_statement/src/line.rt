@@ -9,7 +9,7 @@ use redcode_text::{mode_text, modifier_text, op_text};
 use std::alloc::{AllocError, Allocator};
 use war_types::{Instr, Mode, Modifier, Op};
 
-/// Appends the line of an instruction to a load text. Its numbers are those of a core of this size.
+/// Appends the line of an instruction to a load text. Its numbers are below this core size.
 #[tactic(auto, unfolding(crate::specs::InstrLine::instr_line))]
 pub fn append_line<A: Allocator>(
     text: &mut Vec<u8, A>,
@@ -40,7 +40,7 @@ fn append_operation<A: Allocator>(
     text.extend_from_slice(b".")?;
     text.extend_from_slice(modifier.as_bytes())?;
     let used = operation.len() + 1 + modifier.len();
-    append_spaces(text, 7usize.saturating_sub(used))
+    text.resize(text.len() + 7usize.saturating_sub(used), b' ')
 }
 
 /// Appends an operand: its mode, and its number at the right of 6 places.
@@ -56,7 +56,7 @@ fn append_operand<A: Allocator>(
     text.extend_from_slice(mode_text(mode).as_bytes())?;
     let mut buffer = Buffer::new();
     let digits = buffer.format(nearest_to_zero(number, core)).as_bytes();
-    append_spaces(text, 6usize.saturating_sub(digits.len()))?;
+    text.resize(text.len() + 6usize.saturating_sub(digits.len()), b' ')?;
     text.extend_from_slice(digits)
 }
 
@@ -71,12 +71,4 @@ fn nearest_to_zero(number: u16, core: u16) -> i32
     } else {
         i32::from(number)
     }
-}
-
-/// Appends `count` spaces.
-fn append_spaces<A: Allocator>(text: &mut Vec<u8, A>, count: usize) -> Result<(), AllocError>
-    requires { count ≤ 7 }
-    ensures { OnOk result (text.new.items ≡ text.old.items ++ spaces count) }
-{
-    text.resize(text.len() + count, b' ')
 }

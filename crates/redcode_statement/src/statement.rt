@@ -1,7 +1,7 @@
 //! What the tokens of a line say.
 
 ghost use Rattle.std.specs.{Prelude.◌≡◌, List.list_any};
-ghost use Rattle.{redcode_text.specs.Tokens.pieces, redcode_statement.specs.Statement.{is_bad, is_bad_kind, single_value, value_or_missing, org_said, end_said, assert_said, other_said}};
+ghost use Rattle.{redcode_text.specs.Tokens.pieces, redcode_statement.specs.Statement.{is_bad, is_bad_kind, single_value, org_said, end_said, assert_said, other_said}};
 
 use crate::operand::at_comma;
 use redcode_text::{Names, Token, TokenKind, Word, value};
@@ -80,18 +80,12 @@ fn single_value<N: Names>(tokens: &[Token<'_>], names: &N) -> Result<i64, AsmKin
     ensures { result ≡ single_value (N.values names.now) (pieces tokens.now) }
 {
     let (expression, behind) = at_comma(tokens);
-    let value = value_or_missing(expression, names)?;
+    if expression.is_empty() {
+        return Err(AsmKind::MissingOperand);
+    }
+    let value = value(expression, names).map_err(AsmKind::Expression)?;
     match behind {
         None => Ok(value),
         Some(_) => Err(AsmKind::ExtraText),
     }
-}
-
-fn value_or_missing<N: Names>(tokens: &[Token<'_>], names: &N) -> Result<i64, AsmKind>
-    ensures { result ≡ value_or_missing (N.values names.now) (pieces tokens.now) }
-{
-    if tokens.is_empty() {
-        return Err(AsmKind::MissingOperand);
-    }
-    value(tokens, names).map_err(AsmKind::Expression)
 }

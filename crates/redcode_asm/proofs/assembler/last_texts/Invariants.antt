@@ -1,4 +1,4 @@
--- The last texts so far are those of all lines, unless a line left gives another.
+-- The last texts so far are the last of all lines, unless a line left gives another.
 use Rattle.{std.proofs.Common.{◌≡◌, drop, []}, std.specs.Option.unwrap_or, redcode_asm.specs.Assembly.{last_text, is_name, is_author}}
 use Rattle.redcode_asm.proofs.assembler.last_texts.Given as goal
 

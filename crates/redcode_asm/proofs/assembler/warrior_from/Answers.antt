@@ -1,4 +1,4 @@
-use Rattle.{std.proofs.{lemmas.Grind.common_steps, Common.{List, Result, Ok, arith, subst, sym, ap, ◌∙◌}}, war_types.specs.{declared.fault.AsmFault.AsmFault, Warrior.WarriorParts}}
+use Rattle.{std.proofs.{Common.{List, Result, Ok, subst, sym, ap, ◌∙◌}}, war_types.specs.{declared.fault.AsmFault.AsmFault, Warrior.WarriorParts}}
 use Rattle.{redcode_statement.specs.Chain.◌>>=◌, redcode_asm.specs.Assembly.{Assembles, Placed, warrior_said}}
 use Rattle.redcode_asm.proofs.assembler.warrior_from.Goals as goal
 

@@ -1,4 +1,4 @@
--- The lines so far, and those of what is left.
+-- The lines so far, and the lines of what is left.
 use Rattle.{std.proofs.Common.{◌≡◌, ◌≤◌, ◌+◌, ◌++◌, length}, redcode_lines.specs.{Source.{lines_of, numbered_from}, Block.source_lines}}
 use Rattle.redcode_lines.proofs.source_line.source_lines.Given as goal
 
