@@ -54,7 +54,7 @@ sides_of-both core i below most =
     let a = parted-front a_tokens (comma ∷ b_tokens) (grind arith, (Spells-signed core i.a below.a most).inside) refl in
     let b_inside : AllByRecursion IsInside b_tokens = (grind arith, (Spells-signed core i.b below.b most).inside) in
     let b = subst (λ (ts : List Piece). (before_comma ts ≡ b_tokens) × (behind_comma ts ≡ None)) (append-nil b_tokens)
-        (parted-front b_tokens [] b_inside refl) in
+    (parted-front b_tokens [] b_inside refl) in
     rw (a.0, a.1, b.0, b.1) refl
 
 -- ---- the line

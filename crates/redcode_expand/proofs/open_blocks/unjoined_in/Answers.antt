@@ -15,8 +15,12 @@ loop-token-preserved g c =
           let few = w.before-count.ensures.most in
           let placed = subst (λ (o : Option ℕ). MatchOption o ⊤ (λ p. w.before-count.result ≤ p)) w.place_from.ensures w.before-count.ensures.place in
           rw w.count-is (omega (arith, few, kept.0), unjoined-more bs w.before-count.result c.loop-token.count ts at _ within few kept.1 (λ ends is. placed), ends)
-      | else-is_behind_and w ↦ rw w.count-is (kept.0, unjoined-other bs c.loop-token.count ts at _ within kept.1 (elim w.else-is_behind_and.branch [
+      | else-is_behind_and w ↦ rw w.count-is (
+        kept.0,
+        unjoined-other bs c.loop-token.count ts at _ within kept.1 (elim w.else-is_behind_and.branch [
           | else-is_behind_and-via-then-is_behind_and+else-is_name w' ↦ inr (sym w'.if-is_name.false ∙ w'.is_name.ensures)
           | else-is_behind_and-via-else-is_behind_and w' ↦ inl (sym w'.if-is_behind_and.false ∙ kept.2)
-        ]), ends)
+        ]),
+        ends,
+      )
     ]
