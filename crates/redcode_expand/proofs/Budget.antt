@@ -1,8 +1,8 @@
 -- The steps of a budget that are spent, line by line; and how many lines are written out.
 use Rattle.std.proofs.{Common.{◌≡◌, ◌≤◌, ◌<◌, ℕ, suc, ◌+◌, ◌-◌, ◌*◌, ◌^◌, List, [], ◌∷◌, length, Result, Ok, Err, refl, ap, arith}, Math.Nat.mul-le-mul_left}
-use Rattle.{std.specs.{Bool.⊤, Result.IfOk}, redcode_names.specs.Gives.{◌>>=◌, Gives}, redcode_expand.specs.Budget.{line_steps, most_lines, most_steps, steps_of}}
-use Rattle.redcode_expand.specs.{Walk.{ExpandedLine, WalkState}, Rest.{OpenBlock, steps_left}, Expansion.{Expansion, all_replaced, line_replaced, with_names}}
-use Rattle.redcode_expand.proofs.Words.{AsmFault, EquList, LabelList, Names, SourceLine}
+use Rattle.{std.specs.{Bool.⊤}, redcode_names.specs.Gives.{◌>>=◌}, redcode_expand.specs.Budget.{line_steps, most_lines, most_steps, steps_of}}
+use Rattle.redcode_expand.specs.{Walk.{ExpandedLine, WalkState}, Rest.{OpenBlock, steps_left}, Expansion.{all_replaced, line_replaced}}
+use Rattle.redcode_expand.proofs.Words.{AsmFault, EquList, SourceLine}
 
 -- ---- the steps
 
@@ -34,7 +34,7 @@ most-within old new most length is few = omega (arith, few, ap (λ (m : ℕ). st
 
 -- ---- the lines
 
-abbrev HasLength : ℕ → Result (List ExpandedLine) AsmFault → Type 0
+abbrev pub HasLength : ℕ → Result (List ExpandedLine) AsmFault → Type 0
 HasLength n (Ok lines) = length lines ≡ n
 HasLength n (Err fault) = ⊤
 
@@ -43,23 +43,7 @@ onto (Ok first) (Ok behind) n is = ap suc is
 onto (Ok first) (Err fault) n is = tt
 onto (Err fault) r n is = tt
 
-replaced-length : (equs : EquList) (ls : List ExpandedLine) → HasLength (length ls) (all_replaced equs ls)
+-- no more lines are expanded than were written out
+pub replaced-length : (equs : EquList) (ls : List ExpandedLine) → HasLength (length ls) (all_replaced equs ls)
 replaced-length equs [] = refl
 replaced-length equs (line ∷ ls) = onto (line_replaced equs line) (all_replaced equs ls) (length ls) (replaced-length equs ls)
-
-abbrev lines_in : Result Expansion AsmFault → List ExpandedLine
-lines_in (Ok expanded) = expanded.lines
-lines_in (Err fault) = []
-
-made-few : (r : Result (List ExpandedLine) AsmFault) (labels : LabelList) (k n : ℕ) (result : Result Expansion AsmFault) → HasLength k r → k ≤ n
-    → Gives (λ e. e) result (r >>= λ made. Ok (record { lines = made; labels = labels })) → IfOk result (λ e. length e.lines ≤ n)
-made-few (Ok made) labels k n (Ok e) is few gives =
-    let same : length made ≡ length e.lines = ap (λ (m : Result Expansion AsmFault). length (lines_in m)) gives in
-    omega (arith, is, few, same)
-made-few (Err other) labels k n (Ok e) is few gives = absurd cc
-made-few (Ok made) labels k n (Err fault) is few gives = tt
-made-few (Err other) labels k n (Err fault) is few gives = tt
-
--- no more lines are expanded than were written out
-pub lines-few : (ns : Names) (ls : List ExpandedLine) (n : ℕ) (result : Result Expansion AsmFault) → Gives (λ e. e) result (with_names ns ls) → length ls ≤ n → IfOk result (λ e. length e.lines ≤ n)
-lines-few ns ls n result gives few = made-few (all_replaced ns.equs ls) ns.labels (length ls) n result (replaced-length ns.equs ls) few gives

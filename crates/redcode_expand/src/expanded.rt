@@ -2,7 +2,7 @@
 
 ghost use Rattle.std.specs.Prelude.{◌≡◌, ◌<◌, ◌≤◌, ◌+◌, ◌^◌, length, IfOk, Err};
 ghost use Rattle.{war_types.specs.declared.fault.AsmKind.TheVariants.SourceTooLong, redcode_lines.specs.Block.parsed, redcode_names.specs.Gives.{Gives, fault_at}};
-ghost use Rattle.redcode_expand.specs.{Laws.{AreCounted, BlocksAreWrittenOut, LabelsStandBehindInstructions}, Expansion.{expansion, address_of, all_replaced, line_replaced, with_names, expansion_of_blocks}, Cut.{shown, with_shown}, Budget.{most_lines, most_steps, steps_of}};
+ghost use Rattle.redcode_expand.specs.{Laws.{AreCounted, BlocksAreWrittenOut, LabelsStandBehindInstructions}, Expansion.{expansion, address_of, all_replaced, line_replaced, expansion_of_blocks}, Cut.{shown, with_shown}, Budget.{most_lines, most_steps, steps_of}};
 
 use crate::blocks::walk_all;
 use crate::entry::{Entry, joined};
@@ -134,7 +134,7 @@ impl<'s, A: Allocator + Copy> Expanded<'s, A> {
 const REPLACING: u64 = 1 << 32;
 
 /// Replaces the names of EQUs in the operands of all lines.
-fn replace_each<'s, A: Allocator + Copy>(
+pub(crate) fn replace_each<'s, A: Allocator + Copy>(
     alloc: A,
     names: &Names<'s, A>,
     entries: Vec<Entry<'s, A>, A>,
@@ -182,24 +182,4 @@ fn replace_in<'s, A: Allocator + Copy>(
         title: entry.title,
         tokens,
     })
-}
-
-/// The lines with the names of `EQU`s replaced in their operands, and the labels.
-pub(crate) fn expanded_of<'s, A: Allocator + Copy>(
-    alloc: A,
-    names: Names<'s, A>,
-    entries: Vec<Entry<'s, A>, A>,
-    steps: &mut Steps,
-) -> Result<Expanded<'s, A>, AsmFault>
-    ensures steps { steps.old ≤ steps.new + 2 ^ 32 }
-    ensures less { steps.new ≤ steps.old }
-    ensures expanded { Gives (λ expanded. expanded) result (with_names names.entry entries.entry.items) }
-{
-    match replace_each(alloc, &names, entries, steps) {
-        Ok(entries) => Ok(Expanded {
-            entries,
-            labels: names.labels,
-        }),
-        Err(fault) => Err(fault),
-    }
 }

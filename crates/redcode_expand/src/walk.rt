@@ -6,7 +6,7 @@ ghost use Rattle.{redcode_names.specs.Gives.Gives, redcode_expand.specs.{Cut.{cu
 ghost use Rattle.redcode_expand.specs.Walk.{walk_begin, closed, copied, counted, labelled, with_line, placed, statement, lined, step, step_as, IsCopied};
 
 use crate::entry::{Entry, cut};
-use crate::expanded::{Expanded, expanded_of};
+use crate::expanded::{Expanded, replace_each};
 use crate::open_blocks::OpenBlocks;
 use crate::steps::Steps;
 use redcode_copies::reading_of;
@@ -131,14 +131,22 @@ impl<'s, A: Allocator + Copy> Walk<'s, A> {
         Ok(())
     }
 
-    /// What the walk has found.
+    /// The lines with the names of `EQU`s replaced in their operands, and the labels.
     pub(crate) fn finish(self, steps: &mut Steps) -> Result<Expanded<'s, A>, AsmFault>
         ensures steps { steps.old ≤ steps.new + 2 ^ 32 }
         ensures less { steps.new ≤ steps.old }
         ensures lines { IfOk result (λ expanded. length expanded.lines ≤ self.entry.counted) }
         ensures expanded { Gives (λ expanded. expanded) result (finished self.entry) }
     {
-        expanded_of(self.alloc, self.names, self.entries, steps)
+        let alloc = self.alloc;
+        let names = self.names;
+        match replace_each(alloc, &names, self.entries, steps) {
+            Ok(entries) => Ok(Expanded {
+                entries,
+                labels: names.labels,
+            }),
+            Err(fault) => Err(fault),
+        }
     }
 
     /// A line that counts, without a word.

@@ -1,8 +1,8 @@
-use Rattle.{std.proofs.Common.{◌≤◌, length, subst}, std.specs.Result.IfOk, redcode_expand.specs.Walk.WalkState, redcode_expand.proofs.Budget.lines-few}
+use Rattle.{std.proofs.Common.{arith, ap, length, subst}, redcode_expand.specs.Walk.WalkState, redcode_expand.proofs.Budget.{HasLength, replaced-length}}
 use Rattle.redcode_expand.proofs.walk.Walk.finish.Goals as goal
 
-pub returns-clause-lines : goal.returns-clause-lines
-returns-clause-lines g c =
+pub returns-in-Ok-clause-lines : goal.returns-in-Ok-clause-lines
+returns-in-Ok-clause-lines g c =
     let inside = c.self.inside in
-    subst (λ (st : WalkState). IfOk c.expanded_of.result (λ e. length e.lines ≤ st.counted)) c.self.view_is
-    (lines-few inside.names inside.entries.items inside.counted c.expanded_of.result c.expanded_of.ensures.expanded c.self.invariant.lines)
+    let same = subst (HasLength (length inside.entries.items)) c.in-Ok.ensures.lines (replaced-length inside.names.equs inside.entries.items) in
+    omega (arith, same, c.self.invariant.lines, ap (λ (st : WalkState). st.counted) c.self.view_is)
