@@ -104,7 +104,8 @@ for-fails s ls bs at rof st some going word own over = grind (arith, for-here ls
 pub begun-fails : (s : RawSettings) (ls : List SourceLine) (bs : List OpenBlock) (at rof : ℕ) (st : WalkState) (fault : AsmFault) → at < length ls → st.ended ≡ false
     → (line_in ls at).word ≡ Some words.For → IsNextRof ls (at + 1) rof → rof < length ls → Fails fault (begun s (counters_of bs) (line_in ls at) st)
     → Fails fault (rest_of s ls bs (parsed (drop at ls)) st)
-begun-fails s ls bs at rof st fault some going word own there fails = subst (Fails fault) (sym (rest-begun s ls bs at rof st some going word own there)) (then-fails (begun s (counters_of bs) (line_in ls at) st) fails)
+begun-fails s ls bs at rof st fault some going word own there fails =
+    subst (Fails fault) (sym (rest-begun s ls bs at rof st some going word own there)) (then-fails (begun s (counters_of bs) (line_in ls at) st) fails)
   where
     then-fails : (m : Result Begun AsmFault) → Fails fault m → Fails fault (m >>= begun_rest s ls bs at rof)
     then-fails m h1 = grind arith
@@ -128,7 +129,9 @@ pub passed-goes-on : (s : RawSettings) (ls : List SourceLine) (bs : List OpenBlo
     → (line_in ls at).word ≡ Some words.For → IsNextRof ls (at + 1) rof → rof < length ls → begun s (counters_of bs) (line_in ls at) st ≡ Ok (begun_as new name 0) → new.ended ≡ st.ended
     → AreOpen ls bs (parsed (drop at ls)).1 → closed s (counters_of bs) (line_in ls rof) new ≡ Ok now → now.counted ≡ st.counted → GoesOn s ls bs at st bs (rof + 1) now
 passed-goes-on s ls bs at rof name st new now some going word own there begins same opened closes counted = record {
-  rest = ap with_cut (sym (rest-passed s ls bs at rof name st new some going word own there begins same ∙ ap (λ (m : Result WalkState AsmFault). m >>= rest_of s ls bs (parsed (drop (rof + 1) ls))) closes));
+  rest = ap with_cut (sym (
+      rest-passed s ls bs at rof name st new some going word own there begins same
+      ∙ ap (λ (m : Result WalkState AsmFault). m >>= rest_of s ls bs (parsed (drop (rof + 1) ls))) closes));
   opened = subst (AreOpen ls bs) (for-rofs ls at rof some word own there) opened;
   less = fewer-behind st.counted now.counted (counts bs now) (counts bs st) (length ls - (rof + 1)) (length ls - at) counted (grind arith) (omega (arith, own.later, there));
 }
@@ -142,12 +145,14 @@ block-goes-on s ls bs at rof name st new zero some going word own there begins s
 block-goes-on s ls bs at rof name st new (suc m) some going word own there begins same opened more counted =
     let less-one : suc m - 1 ≡ m = omega arith in
     let ends = ends-with ls at rof own there in
-    let start : counts (open_block (line_in ls at).number (counter_of name 1) m new.counted (at + 1) ∷ bs) new ≡ 0 = ap (λ (b : Bool). if b then 0 else 1) (eq-eqb new.counted new.counted refl) in
+    let start : counts (open_block (line_in ls at).number (counter_of name 1) m new.counted (at + 1) ∷ bs) new ≡ 0 =
+    ap (λ (b : Bool). if b then 0 else 1) (eq-eqb new.counted new.counted refl) in
     rw less-one (record {
       rest = ap with_cut (sym (
           rest-begun s ls bs at rof st some going word own there ∙ ap (λ (x : Result Begun AsmFault). x >>= begun_rest s ls bs at rof) begins
           ∙ copies-go s ls bs name (line_in ls at).number 1 m (at + 1) _ _ new ends (same ∙ going)));
-      opened = subst (AreOpen ls (open_block (line_in ls at).number (counter_of name 1) m new.counted (at + 1) ∷ bs)) (sym ends) (ends, subst (AreOpen ls bs) (for-rofs ls at rof some word own there) opened);
+      opened = subst (AreOpen ls (open_block (line_in ls at).number (counter_of name 1) m new.counted (at + 1) ∷ bs)) (sym ends)
+          (ends, subst (AreOpen ls bs) (for-rofs ls at rof some word own there) opened);
       less = fewer-behind st.counted new.counted _ (counts bs st) (length ls - (at + 1)) (length ls - at) counted (omega (arith, start)) (omega arith);
     })
 
