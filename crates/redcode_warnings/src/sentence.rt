@@ -6,18 +6,22 @@ use crate::near::near_word;
 use std::alloc::{AllocError, Allocator};
 use war_types::Title;
 
-/// What is said if there is no name.
+// The sentences of findings, and the longest parts of those in which a word of the source stands.
 const NO_NAME: &[u8] = b"there is no `;name`, so the warrior is called Unnamed";
 
-/// What is said if there is no author.
 const NO_AUTHOR: &[u8] = b"there is no `;author`, so the author is called Anonymous";
 
-/// What is said if there is no assertion.
 const NO_ASSERT: &[u8] =
     b"there is no `;assert` that says which settings this is for, as `;assert CORESIZE == 8000`";
 
-/// What is said of an instruction that isn't read.
 const CODE_AFTER_END: &[u8] = b"this instruction stands after `END`, and isn't read";
+
+const UNUSED_LABEL: &[u8] = b"` is a label that nothing uses; did you mean `";
+
+const NAMES_ALONE: &[u8] = b"this line has names alone, and nothing uses the label `";
+
+const CHANGED_TITLE: &[u8] =
+    b"a title has 48 printable characters of ASCII at most; this one becomes `";
 
 /// The sentence of a finding.
 pub(crate) fn sentence_of<A: Allocator + Copy>(
@@ -35,41 +39,35 @@ pub(crate) fn sentence_of<A: Allocator + Copy>(
     }
 }
 
-/// A label that nothing uses, and the word that was probably meant.
+/// A label that nothing uses, and what was probably meant.
 fn unused_label<A: Allocator>(alloc: A, label: &[u8]) -> Result<Vec<u8, A>, AllocError> {
-    let mut sentence = quoted(alloc, b"", label)?;
-    sentence.extend_from_slice(b" is a label that nothing uses; did you mean `")?;
-    sentence.extend_from_slice(near_word(label).unwrap_or("").as_bytes())?;
-    sentence.extend_from_slice(b"`?")?;
-    Ok(sentence)
+    joined(alloc, &[b"`", label, UNUSED_LABEL, meant_by(label), b"`?"])
+}
+
+/// The word that was probably meant by a label.
+fn meant_by(label: &[u8]) -> &[u8] {
+    near_word(label).unwrap_or("").as_bytes()
 }
 
 /// A label on a line of names alone.
 fn names_alone<A: Allocator>(alloc: A, label: &[u8]) -> Result<Vec<u8, A>, AllocError> {
-    let mut sentence = quoted(
+    joined(
         alloc,
-        b"this line has names alone, and nothing uses the label ",
-        label,
-    )?;
-    sentence.extend_from_slice(b"; an operation was probably meant")?;
-    Ok(sentence)
+        &[NAMES_ALONE, label, b"`; an operation was probably meant"],
+    )
 }
 
 /// How a title reads that is changed.
 fn changed_title<A: Allocator>(alloc: A, text: &[u8]) -> Result<Vec<u8, A>, AllocError> {
     let title = Title::new(text, "Unnamed");
-    quoted(
-        alloc,
-        b"a title has 48 printable characters of ASCII at most; this one becomes ",
-        title.bytes(),
-    )
+    joined(alloc, &[CHANGED_TITLE, title.bytes(), b"`"])
 }
 
-/// A text, and a word after it between backticks.
-fn quoted<A: Allocator>(alloc: A, text: &[u8], word: &[u8]) -> Result<Vec<u8, A>, AllocError> {
-    let mut sentence = Vec::from_slice(alloc, text)?;
-    sentence.push(b'`')?;
-    sentence.extend_from_slice(word)?;
-    sentence.push(b'`')?;
+/// These parts, one after the other.
+fn joined<A: Allocator>(alloc: A, parts: &[&[u8]]) -> Result<Vec<u8, A>, AllocError> {
+    let mut sentence = Vec::new(alloc);
+    for part in parts {
+        sentence.extend_from_slice(part)?;
+    }
     Ok(sentence)
 }

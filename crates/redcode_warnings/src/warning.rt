@@ -1,6 +1,6 @@
 //! The warnings of a source.
 
-ghost use Rattle.std.specs.Prelude.{◌≡◌, All, IfOk, map, take};
+ghost use Rattle.std.specs.Prelude.{◌≡◌, ◌∷◌, [], ◌++◌, All, IfOk, OnOk, map, take};
 ghost use Rattle.redcode_lines.specs.Place.{IsPlaceIn, line_text};
 ghost use Rattle.redcode_warnings.specs.{Views.notes, Warnings.{noted, warnings_of}};
 
@@ -74,28 +74,32 @@ fn told_all<A: Allocator + Copy>(
     let mut all = Vec::new(alloc);
     let mut rest = found;
     while let [finding, behind @ ..] = rest {
-        all.push(told(alloc, source, finding)?)?;
+        tell(alloc, source, finding, &mut all)?;
         rest = behind;
     }
     Ok(all)
 }
 
-/// A finding, as it is reported to people.
-fn told<A: Allocator + Copy>(
+/// Adds a finding, as it is reported to people.
+fn tell<A: Allocator + Copy>(
     alloc: A,
     source: &[u8],
     finding: &Finding<'_>,
-) -> Result<Warning<A>, AllocError>
-    ensures told { IfOk result (λ w. noted w.kind w.line ≡ noted finding.now.kind finding.now.line) }
-    ensures placed { IfOk result (λ w. IsPlaceIn (line_text source.now w.line) w.column w.width) }
+    all: &mut Vec<Warning<A>, A>,
+) -> Result<(), AllocError>
+    ensures told { OnOk result (map (λ w. noted w.kind w.line) all.new.items
+        ≡ map (λ w. noted w.kind w.line) all.old.items ++ notes (finding.now ∷ [])) }
+    ensures placed { OnOk result (All (λ w. IsPlaceIn (line_text source.now w.line) w.column w.width) all.old.items
+        → All (λ w. IsPlaceIn (line_text source.now w.line) w.column w.width) all.new.items) }
 {
     let text = line_text(source, finding.line);
     let (column, width) = place_in(text, finding.span.unwrap_or(whole(text)));
-    Ok(Warning {
+    all.push(Warning {
         kind: finding.kind,
         line: finding.line,
         column,
         width,
         sentence: sentence_of(alloc, finding)?,
-    })
+    })?;
+    Ok(())
 }
