@@ -1,6 +1,6 @@
 -- An object of JSON on one line. No value is an object or an array, so that a line is a row of a table.
-use Rattle.std.specs.{Prelude.{ℕ, Bool, true, false, List, ◌++◌, codes, decimal}, List.flat_map}
-use Rattle.koth_json.specs.{declared.key.Key.Key, Keys.key_text, Strings.string_text}
+use Rattle.std.specs.{Prelude.{ℕ, Bool, true, false, List, ◌++◌, map, codes, decimal}, List.flat_map}
+use Rattle.koth_json.specs.{declared.{key.Key.Key, object.Value.Value as Put}, Keys.key_text, Strings.string_text}
 
 -- a string for these bytes, a number, or true or false
 pub data Value : Type 0 where
@@ -8,9 +8,18 @@ pub data Value : Type 0 where
   number : ℕ → Value
   truth : Bool → Value
 
+-- as the code puts it
+abbrev pub value_of : Put → Value
+value_of (Put.Text bytes) = text bytes.now
+value_of (Put.Number n) = number n
+value_of (Put.Truth b) = truth b
+
 -- its name and its value
 abbrev pub Field : Type 0
 Field = Key × Value
+
+abbrev pub field_of : Key × Put → Field
+field_of field = (field.0, value_of field.1)
 
 abbrev pub truth_text : Bool → List ℕ
 truth_text true = codes "true"

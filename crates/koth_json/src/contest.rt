@@ -1,10 +1,11 @@
 //! The lines of `fight`.
 
-ghost use Rattle.std.specs.Prelude.{◌≡◌, ◌++◌, OnOk};
-ghost use Rattle.koth_json.specs.{Contest.{contender_fields, contender_parts, course_fields, draw_fields, match_line, opponent_fields, round_line, sum_line, tally_fields}, Objects.further_text};
+ghost use Rattle.std.specs.Prelude.{◌≡◌, ◌∷◌, [], ◌++◌, codes, OnOk};
+ghost use Rattle.koth_json.specs.{declared.key.Key.Key, Contest.{contender_fields, contender_parts, match_line, opponent_fields, round_line, sum_line, tally_fields}, Objects.{Value, further_text}};
 
 use crate::key::Key;
-use crate::object::{begin, end, put_number, put_text};
+use crate::object::Value::{Number, Text};
+use crate::object::{begin, end_with, put_fields, put_object};
 use koth_text::Tally;
 use std::alloc::{AllocError, Allocator};
 use war_types::Title;
@@ -28,12 +29,10 @@ pub fn put_match<A: Allocator>(
     ensures { OnOk result (lines.new.items ≡ lines.old.items
         ++ match_line (contender_parts mine.entry) (contender_parts other.entry) tally points) }
 {
-    begin(lines, "match")?;
+    begin(lines, (Key::Type, Text(b"match")))?;
     put_contender(lines, mine)?;
     put_opponent(lines, other)?;
-    put_tally(lines, tally)?;
-    put_number(lines, Key::Points, points)?;
-    end(lines)
+    end_with_result(lines, tally, points)
 }
 
 /// Puts the line of all contests of one warrior together, with how many opponents it met. The error is lack of memory.
@@ -47,12 +46,10 @@ pub fn put_sum<A: Allocator>(
     ensures { OnOk result (lines.new.items ≡ lines.old.items
         ++ sum_line (contender_parts mine.entry) opponents tally points) }
 {
-    begin(lines, "sum")?;
+    begin(lines, (Key::Type, Text(b"sum")))?;
     put_contender(lines, mine)?;
-    put_number(lines, Key::Opponents, opponents)?;
-    put_tally(lines, tally)?;
-    put_number(lines, Key::Points, points)?;
-    end(lines)
+    put_fields(lines, &[(Key::Opponents, Number(opponents))])?;
+    end_with_result(lines, tally, points)
 }
 
 fn put_contender<A: Allocator>(
@@ -62,9 +59,12 @@ fn put_contender<A: Allocator>(
     ensures { OnOk result (line.new.items ≡ line.old.items
         ++ further_text (contender_fields (contender_parts contender.entry))) }
 {
-    put_text(line, Key::File, contender.file.as_bytes())?;
-    put_text(line, Key::Name, contender.name.bytes())?;
-    put_text(line, Key::Author, contender.author.bytes())
+    let fields = [
+        (Key::File, Text(contender.file.as_bytes())),
+        (Key::Name, Text(contender.name.bytes())),
+        (Key::Author, Text(contender.author.bytes())),
+    ];
+    put_fields(line, &fields)
 }
 
 fn put_opponent<A: Allocator>(
@@ -74,18 +74,30 @@ fn put_opponent<A: Allocator>(
     ensures { OnOk result (line.new.items ≡ line.old.items
         ++ further_text (opponent_fields (contender_parts opponent.entry))) }
 {
-    put_text(line, Key::OpponentFile, opponent.file.as_bytes())?;
-    put_text(line, Key::OpponentName, opponent.name.bytes())?;
-    put_text(line, Key::OpponentAuthor, opponent.author.bytes())
+    let fields = [
+        (Key::OpponentFile, Text(opponent.file.as_bytes())),
+        (Key::OpponentName, Text(opponent.name.bytes())),
+        (Key::OpponentAuthor, Text(opponent.author.bytes())),
+    ];
+    put_fields(line, &fields)
 }
 
-/// Puts the rounds of one side.
-pub(crate) fn put_tally<A: Allocator>(line: &mut Vec<u8, A>, tally: Tally) -> Result<(), AllocError>
-    ensures { OnOk result (line.new.items ≡ line.old.items ++ further_text (tally_fields tally)) }
+/// Ends a line with the rounds and the points of one side.
+fn end_with_result<A: Allocator>(
+    line: &mut Vec<u8, A>,
+    tally: Tally,
+    points: u64,
+) -> Result<(), AllocError>
+    ensures { OnOk result (line.new.items ≡ line.old.items
+        ++ (further_text (tally_fields tally ++ (Key.Points, Value.number points) ∷ []) ++ codes "}\n")) }
 {
-    put_number(line, Key::Won, tally.won)?;
-    put_number(line, Key::Lost, tally.lost)?;
-    put_number(line, Key::Tied, tally.tied)
+    let fields = [
+        (Key::Won, Number(tally.won)),
+        (Key::Lost, Number(tally.lost)),
+        (Key::Tied, Number(tally.tied)),
+        (Key::Points, Number(points)),
+    ];
+    end_with(line, &fields)
 }
 
 /// What is told of a round.
@@ -109,28 +121,13 @@ pub fn put_round<A: Allocator>(lines: &mut Vec<u8, A>, round: Round<'_>) -> Resu
     ensures { OnOk result (lines.new.items ≡ lines.old.items ++ round_line round.entry.number round.entry.seed
         round.entry.position round.entry.first.now round.entry.outcome.now round.entry.turns) }
 {
-    begin(lines, "round")?;
-    put_draw(lines, round)?;
-    put_course(lines, round)?;
-    end(lines)
-}
-
-/// Puts which round it is, and where the second warrior is loaded.
-fn put_draw<A: Allocator>(line: &mut Vec<u8, A>, round: Round<'_>) -> Result<(), AllocError>
-    ensures { OnOk result (line.new.items ≡ line.old.items
-        ++ further_text (draw_fields round.entry.number round.entry.seed round.entry.position)) }
-{
-    put_number(line, Key::Round, u64::from(round.number))?;
-    put_number(line, Key::Seed, u64::from(round.seed))?;
-    put_number(line, Key::Position, u64::from(round.position))
-}
-
-/// Puts how a round went.
-fn put_course<A: Allocator>(line: &mut Vec<u8, A>, round: Round<'_>) -> Result<(), AllocError>
-    ensures { OnOk result (line.new.items ≡ line.old.items
-        ++ further_text (course_fields round.entry.first.now round.entry.outcome.now round.entry.turns)) }
-{
-    put_text(line, Key::First, round.first.as_bytes())?;
-    put_text(line, Key::Outcome, round.outcome.as_bytes())?;
-    put_number(line, Key::Turns, u64::from(round.turns))
+    let fields = [
+        (Key::Round, Number(u64::from(round.number))),
+        (Key::Seed, Number(u64::from(round.seed))),
+        (Key::Position, Number(u64::from(round.position))),
+        (Key::First, Text(round.first.as_bytes())),
+        (Key::Outcome, Text(round.outcome.as_bytes())),
+        (Key::Turns, Number(u64::from(round.turns))),
+    ];
+    put_object(lines, "round", &fields)
 }

@@ -1,10 +1,11 @@
 //! The lines of `check`, and of a source that is refused.
 
-ghost use Rattle.std.specs.Prelude.{◌≡◌, ◌++◌, OnOk};
-ghost use Rattle.koth_json.specs.{Finding.{copied_fields, copy_fields, finding_fields, finding_line, place_fields, refused_line, severity_text}, Objects.further_text};
+ghost use Rattle.std.specs.Prelude.{◌≡◌, ◌++◌, codes, OnOk};
+ghost use Rattle.koth_json.specs.{Finding.{copy_fields, finding_fields, finding_line, refused_line, severity_text}, Objects.further_text};
 
 use crate::key::Key;
-use crate::object::{begin, begin_with, end, put_number, put_text};
+use crate::object::Value::{Number, Text};
+use crate::object::{begin, end_with, put_fields};
 use std::alloc::{AllocError, Allocator};
 
 /// How bad a finding is.
@@ -52,9 +53,8 @@ pub fn put_finding<A: Allocator>(
 ) -> Result<(), AllocError>
     ensures { OnOk result (lines.new.items ≡ lines.old.items ++ finding_line file.now finding.entry) }
 {
-    begin_with(lines, Key::File, file.as_bytes())?;
-    put_parts(lines, finding)?;
-    end(lines)
+    begin(lines, (Key::File, Text(file.as_bytes())))?;
+    end_with_parts(lines, finding)
 }
 
 /// Puts the line of a source that is refused, for what is found in it. The error is lack of memory.
@@ -65,50 +65,52 @@ pub fn put_refused<A: Allocator>(
 ) -> Result<(), AllocError>
     ensures { OnOk result (lines.new.items ≡ lines.old.items ++ refused_line file.now finding.entry) }
 {
-    begin(lines, "refused")?;
-    put_text(lines, Key::File, file.as_bytes())?;
-    put_parts(lines, finding)?;
-    end(lines)
+    begin(lines, (Key::Type, Text(b"refused")))?;
+    put_fields(lines, &[(Key::File, Text(file.as_bytes()))])?;
+    end_with_parts(lines, finding)
 }
 
-fn put_parts<A: Allocator>(line: &mut Vec<u8, A>, finding: Finding<'_>) -> Result<(), AllocError>
-    ensures { OnOk result (line.new.items ≡ line.old.items ++ further_text (finding_fields finding.entry)) }
+/// Ends a line with what is found, and where it is.
+fn end_with_parts<A: Allocator>(
+    line: &mut Vec<u8, A>,
+    finding: Finding<'_>,
+) -> Result<(), AllocError>
+    ensures { OnOk result (line.new.items ≡ line.old.items ++ (further_text (finding_fields finding.entry) ++ codes "}\n")) }
 {
-    put_place(line, finding)?;
-    put_text(line, Key::Kind, finding.kind.as_bytes())?;
-    put_text(
-        line,
-        Key::Severity,
-        severity_text(finding.severity).as_bytes(),
-    )?;
-    put_text(line, Key::Message, finding.message)?;
-    put_text(line, Key::Text, finding.text)?;
-    put_copy(line, finding.copy)
+    let fields = [
+        (Key::Line, Number(u64::from(finding.line))),
+        (Key::Column, Number(u64::from(finding.column))),
+        (Key::Width, Number(u64::from(finding.width))),
+        (Key::Kind, Text(finding.kind.as_bytes())),
+        (
+            Key::Severity,
+            Text(severity_text(finding.severity).as_bytes()),
+        ),
+        (Key::Message, Text(finding.message)),
+        (Key::Text, Text(finding.text)),
+    ];
+    put_fields(line, &fields)?;
+    end_with_copy(line, finding.copy)
 }
 
-fn put_place<A: Allocator>(line: &mut Vec<u8, A>, finding: Finding<'_>) -> Result<(), AllocError>
-    ensures { OnOk result (line.new.items ≡ line.old.items ++ further_text (place_fields finding.entry)) }
-{
-    put_number(line, Key::Line, u64::from(finding.line))?;
-    put_number(line, Key::Column, u64::from(finding.column))?;
-    put_number(line, Key::Width, u64::from(finding.width))
-}
-
-fn put_copy<A: Allocator>(line: &mut Vec<u8, A>, copy: Option<Copied<'_>>) -> Result<(), AllocError>
-    ensures { OnOk result (line.new.items ≡ line.old.items ++ further_text (copy_fields copy.entry)) }
+/// Ends a line with the copy that is to blame, if there is one.
+fn end_with_copy<A: Allocator>(
+    line: &mut Vec<u8, A>,
+    copy: Option<Copied<'_>>,
+) -> Result<(), AllocError>
+    ensures { OnOk result (line.new.items ≡ line.old.items ++ (further_text (copy_fields copy.entry) ++ codes "}\n")) }
 {
     match copy {
-        None => Ok(()),
-        Some(copy) => put_copied(line, copy),
+        None => end_with(line, &[]),
+        Some(copy) => {
+            let fields = [
+                (Key::Copy, Number(u64::from(copy.times))),
+                (Key::Block, Number(u64::from(copy.block))),
+                (Key::Reads, Text(copy.text)),
+            ];
+            end_with(line, &fields)
+        }
     }
-}
-
-fn put_copied<A: Allocator>(line: &mut Vec<u8, A>, copy: Copied<'_>) -> Result<(), AllocError>
-    ensures { OnOk result (line.new.items ≡ line.old.items ++ further_text (copied_fields copy.entry)) }
-{
-    put_number(line, Key::Copy, u64::from(copy.times))?;
-    put_number(line, Key::Block, u64::from(copy.block))?;
-    put_text(line, Key::Reads, copy.text)
 }
 
 fn severity_text(severity: Severity) -> &'static str

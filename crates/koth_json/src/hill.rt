@@ -2,11 +2,11 @@
 
 ghost use Rattle.std.specs.Prelude.{◌≡◌, ◌+◌, ◌++◌, length, IfOk, OnOk};
 ghost use Rattle.koth_hill.specs.Rows.{row_parts, rows_parts};
-ghost use Rattle.koth_json.specs.{Hill.{bound_fields, bout_line, bout_lines, hill_line, hill_text, kept_lines, matches_text, row_line, row_lines, size_fields, standing_fields}, Objects.further_text};
+ghost use Rattle.koth_json.specs.Hill.{bout_line, bout_lines, hill_line, hill_text, kept_lines, matches_text, row_line, row_lines};
 
-use crate::contest::put_tally;
 use crate::key::Key;
-use crate::object::{begin, end, put_number, put_text};
+use crate::object::Value::{Number, Text};
+use crate::object::put_object;
 use koth_hill::{Hill, Member, Row};
 use koth_match::Bout;
 use koth_text::Tally;
@@ -55,32 +55,19 @@ fn put_hill<A: Allocator>(
 ) -> Result<(), AllocError>
     ensures { OnOk result (lines.new.items ≡ lines.old.items ++ hill_line warriors given) }
 {
-    begin(lines, "hill")?;
-    put_number(lines, Key::Warriors, warriors)?;
-    put_sizes(lines, given)?;
-    put_bounds(lines, given)?;
-    end(lines)
-}
-
-/// Puts the sizes of a match, and its cycles.
-fn put_sizes<A: Allocator>(line: &mut Vec<u8, A>, given: RawSettings) -> Result<(), AllocError>
-    ensures { OnOk result (line.new.items ≡ line.old.items ++ further_text (size_fields given)) }
-{
-    put_number(line, Key::Core, u64::from(given.core))?;
-    put_number(line, Key::Cycles, u64::from(given.cycles))?;
-    put_number(line, Key::Processes, u64::from(given.processes))?;
-    put_number(line, Key::Length, u64::from(given.length))?;
-    put_number(line, Key::Distance, u64::from(given.distance))
-}
-
-/// Puts the rounds, the capacity of the hill, and how far operands reach.
-fn put_bounds<A: Allocator>(line: &mut Vec<u8, A>, given: RawSettings) -> Result<(), AllocError>
-    ensures { OnOk result (line.new.items ≡ line.old.items ++ further_text (bound_fields given)) }
-{
-    put_number(line, Key::Rounds, u64::from(given.rounds))?;
-    put_number(line, Key::Capacity, u64::from(given.capacity))?;
-    put_number(line, Key::ReadLimit, u64::from(given.read_limit))?;
-    put_number(line, Key::WriteLimit, u64::from(given.write_limit))
+    let fields = [
+        (Key::Warriors, Number(warriors)),
+        (Key::Core, Number(u64::from(given.core))),
+        (Key::Cycles, Number(u64::from(given.cycles))),
+        (Key::Processes, Number(u64::from(given.processes))),
+        (Key::Length, Number(u64::from(given.length))),
+        (Key::Distance, Number(u64::from(given.distance))),
+        (Key::Rounds, Number(u64::from(given.rounds))),
+        (Key::Capacity, Number(u64::from(given.capacity))),
+        (Key::ReadLimit, Number(u64::from(given.read_limit))),
+        (Key::WriteLimit, Number(u64::from(given.write_limit))),
+    ];
+    put_object(lines, "hill", &fields)
 }
 
 /// Puts the lines of the warriors in these rows, which stand by rank. The error is lack of memory.
@@ -96,21 +83,15 @@ fn put_rows<A: Allocator>(lines: &mut Vec<u8, A>, rows: &[Row<'_>]) -> Result<()
 fn put_row<A: Allocator>(lines: &mut Vec<u8, A>, rank: u64, row: &Row<'_>) -> Result<(), AllocError>
     ensures { OnOk result (lines.new.items ≡ lines.old.items ++ row_line rank (row_parts row.now)) }
 {
-    begin(lines, "warrior")?;
-    put_number(lines, Key::Rank, rank)?;
-    put_standing(lines, row)?;
-    put_text(lines, Key::Name, row.name.bytes())?;
-    put_text(lines, Key::Author, row.author.bytes())?;
-    end(lines)
-}
-
-/// Puts the numbers of a warrior on the hill.
-fn put_standing<A: Allocator>(line: &mut Vec<u8, A>, row: &Row<'_>) -> Result<(), AllocError>
-    ensures { OnOk result (line.new.items ≡ line.old.items ++ further_text (standing_fields (row_parts row.now))) }
-{
-    put_number(line, Key::Entry, row.entry)?;
-    put_number(line, Key::Points, u64::from(row.score))?;
-    put_number(line, Key::Age, row.age)
+    let fields = [
+        (Key::Rank, Number(rank)),
+        (Key::Entry, Number(row.entry)),
+        (Key::Points, Number(u64::from(row.score))),
+        (Key::Age, Number(row.age)),
+        (Key::Name, Text(row.name.bytes())),
+        (Key::Author, Text(row.author.bytes())),
+    ];
+    put_object(lines, "warrior", &fields)
 }
 
 /// Puts the lines of the matches on a hill: those of each warrior with the older ones. The error is lack of memory.
@@ -154,11 +135,15 @@ fn put_bout<A: Allocator, B: Allocator>(
 ) -> Result<(), AllocError>
     ensures { OnOk result (lines.new.items ≡ lines.old.items ++ bout_line entry older.now bout) }
 {
-    begin(lines, "match")?;
-    put_number(lines, Key::Entry, entry)?;
-    put_number(lines, Key::Opponent, older.entry)?;
-    put_text(lines, Key::OpponentName, older.warrior.name().bytes())?;
-    put_text(lines, Key::OpponentAuthor, older.warrior.author().bytes())?;
-    put_tally(lines, Tally::of_younger(bout))?;
-    end(lines)
+    let tally = Tally::of_younger(bout);
+    let fields = [
+        (Key::Entry, Number(entry)),
+        (Key::Opponent, Number(older.entry)),
+        (Key::OpponentName, Text(older.warrior.name().bytes())),
+        (Key::OpponentAuthor, Text(older.warrior.author().bytes())),
+        (Key::Won, Number(tally.won)),
+        (Key::Lost, Number(tally.lost)),
+        (Key::Tied, Number(tally.tied)),
+    ];
+    put_object(lines, "match", &fields)
 }
