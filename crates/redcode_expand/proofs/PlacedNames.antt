@@ -166,6 +166,11 @@ none-last false named o none = refl
 token-more : (ts : List Token) (i : ℕ) (d : Token) → i < length ts → pieces (take (i + 1) ts) ≡ pieces (take i ts) ++ piece_of (get_or ts i d) ∷ []
 token-more ts i d within = ap (λ (xs : List Token). pieces xs) (take_more ts i d within) ∙ map-append piece_of (take i ts) (get_or ts i d ∷ [])
 
+-- without counters none follows an &
+pub no-join : (b : Bool) (ts : List Piece) → has_join [] b ts ≡ false
+no-join b [] = refl
+no-join b (x ∷ ts) = grind (arith, no-join (has_text (codes "&") x) ts)
+
 -- a token more, after which an & may have come
 pub ends-more : (ts : List Token) (i : ℕ) (d : Token) → i < length ts → ends_and false (pieces (take (i + 1) ts)) ≡ has_text (codes "&") (piece_of (get_or ts i d))
 ends-more ts i d within = ap (ends_and false) (token-more ts i d within) ∙ ends-last false (pieces (take i ts)) (piece_of (get_or ts i d))

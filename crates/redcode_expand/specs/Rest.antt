@@ -20,10 +20,6 @@ pub record OpenBlock : Type 0 where
 abbrev pub open_block : ℕ → Counter → ℕ → ℕ → ℕ → OpenBlock
 open_block number counter left start body = record { number = number; counter = counter; left = left; start = start; body = body }
 
-abbrev pub has_none : List OpenBlock → Bool
-has_none [] = true
-has_none (b ∷ bs) = false
-
 -- the counters of blocks within each other, the innermost block first; the outermost counter is the first
 abbrev pub counters_of : List OpenBlock → List Counter
 counters_of [] = []

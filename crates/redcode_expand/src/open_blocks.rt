@@ -3,7 +3,7 @@
 ghost use Rattle.std.specs.Prelude.{◌≡◌, ◌+◌, ◌≤◌, ◌∷◌, [], length, take, drop, false, ⊤, None, Some, IfOk, OnOk, MatchOption};
 ghost use Rattle.{redcode_text.specs.Tokens.pieces, redcode_lines.specs.Views.line_read};
 ghost use Rattle.redcode_copies.specs.{Counter.in_copies, Plain.has_join, Views.with_tokens};
-ghost use Rattle.{redcode_names.specs.Name.address_of, redcode_expand.specs.Rest.{ArePlaced, counters_in, counters_of, has_none, place_in}};
+ghost use Rattle.{redcode_names.specs.Name.address_of, redcode_expand.specs.Rest.{ArePlaced, counters_in, counters_of, place_in}};
 
 use crate::open_block::OpenBlock;
 use bumpalo::Bump;
@@ -48,13 +48,6 @@ impl<'s, A: Allocator + Copy> OpenBlocks<'s, A> {
             blocks: Vec::new(alloc),
             names: CounterNames::new(alloc, hash),
         }
-    }
-
-    /// Whether there is none.
-    pub(crate) fn is_empty(&self) -> bool
-        ensures { result ≡ has_none self.now }
-    {
-        self.blocks.is_empty()
     }
 
     /// How many there are.
@@ -114,6 +107,9 @@ impl<A: Allocator + Copy> Counters for NextBlocks<'_, '_, A> {
     ghost counters = { λ blocks. counters_in blocks };
 
     fn number_of(&self, name: &[u8]) -> Option<u64> {
+        if self.count == 0 {
+            return None;
+        }
         let place = place_from(self.names, self.blocks, self.from, name)?;
         if place >= self.count {
             return None;
@@ -191,6 +187,9 @@ fn unjoined_in<A: Allocator + Copy>(
     let mut count = most;
     let mut is_behind_and = false;
     for token in tokens {
+        if count == 0 {
+            return 0;
+        }
         if is_behind_and && is_name(token) {
             count = before(count, place_from(names, blocks, from, token.text));
         }

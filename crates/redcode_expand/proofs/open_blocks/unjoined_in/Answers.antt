@@ -1,6 +1,9 @@
-use Rattle.{std.proofs.Common.{◌≤◌, ◌∙◌, ℕ, drop, Option, MatchOption, subst, sym, arith, inl, inr}, std.specs.Bool.⊤, redcode_expand.proofs.PlacedNames.{ends-more, unjoined-more, unjoined-other}}
+use Rattle.{redcode_text.specs.Tokens.pieces, std.proofs.Common.{◌≤◌, ◌∙◌, ℕ, drop, false, Option, MatchOption, subst, sym, arith, inl, inr}, std.specs.Bool.⊤, redcode_expand.proofs.PlacedNames.{ends-more, no-join, unjoined-more, unjoined-other}}
 use Rattle.redcode_expand.proofs.open_blocks.unjoined_in.Goals.{then-is_behind_and+then-is_name, else-is_behind_and, else-is_behind_and-via-then-is_behind_and+else-is_name, else-is_behind_and-via-else-is_behind_and}
 use Rattle.redcode_expand.proofs.open_blocks.unjoined_in.Goals as goal
+
+pub returns-then-count-eq0-clause-none : goal.returns-then-count-eq0-clause-none
+returns-then-count-eq0-clause-none g c = no-join false (pieces c.args.tokens.now)
 
 pub loop-token-preserved : goal.loop-token-preserved
 loop-token-preserved g c =
