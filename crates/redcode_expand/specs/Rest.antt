@@ -1,5 +1,5 @@
 -- What is left of a source within blocks that are open.
-use Rattle.std.specs.Prelude.{◌≡◌, ℕ, suc, ◌+◌, ◌-◌, ◌*◌, ◌<◌, Bool, true, false, IsTrue, nat_eq, if◌then◌else◌, List, [], ◌∷◌, ◌++◌, length, drop, ⊤, Option, Some, None, Result, Ok, Err}
+use Rattle.std.specs.Prelude.{◌≡◌, ℕ, suc, ◌+◌, ◌-◌, ◌*◌, ◌<◌, false, IsTrue, nat_eq, if◌then◌else◌, List, [], ◌∷◌, ◌++◌, length, drop, ⊤, Option, Some, None, Result, Ok, Err}
 use Rattle.{std.specs.{Option.option_map, Str.bytes_eq}, war_types.specs.{declared.fault.AsmFault.AsmFault, declared.settings.RawSettings.RawSettings}}
 use Rattle.{redcode_lines.specs.{Line.SourceLine, Block.{Blocks, Parsed, parsed}}, redcode_copies.specs.Counter.{Counter, counter_of}}
 use Rattle.{redcode_names.specs.{Gives.{◌>>=◌, Fails}, Name.{LabelList, address_of}}, redcode_expand.specs.{Cut.with_cut, Walk.{WalkState, walk, copies, copied, closed, unmatched, until_end}}}

@@ -1,6 +1,6 @@
-use Rattle.{std.proofs.Common.{◌≡◌, ◌+◌, ◌<◌, length, Some, arith, sym, ap, ◌∙◌}, redcode_lines.specs.{Line.SourceLine, Views.line_read}}
+use Rattle.{std.proofs.Common.{◌+◌, ◌<◌, length, Some, arith, sym, ap, ◌∙◌}, redcode_lines.specs.{Line.SourceLine, Views.line_read}}
 use Rattle.{redcode_copies.specs.{Counter.in_copy, Views.with_tokens}, redcode_copies.proofs.WrittenLines.tokens-again}
-use Rattle.{redcode_expand.specs.Rest.{OpenBlock, counters_in}, redcode_expand.proofs.PlacedNames.{copies-on, copies-next}}
+use Rattle.{redcode_expand.specs.Rest.{OpenBlock}, redcode_expand.proofs.PlacedNames.{copies-on, copies-next}}
 use Rattle.redcode_expand.proofs.open_blocks.in_blocks.Goals as goal
 
 pub loop-from-preserved : goal.loop-from-preserved
