@@ -142,10 +142,10 @@ fn a_trial_without_memory(rt: HostRuntime) {
     let settings = settings_from(SMALL).expect(&rt, "they are settings");
     let device = blank(&memory).expect(&rt, "there is memory");
     let mut store = created(&memory, device, settings).expect(&rt, "it is created");
-    for k in 0..10 {
+    for k in 0..11 {
         memory.refuse(k, 1);
         let reply = reply_tried(&mut store, b"JMP 0", None);
-        let due = if k < 9 {
+        let due = if k < 10 {
             Reply::Memory
         } else {
             Reply::Placed {

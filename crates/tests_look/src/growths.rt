@@ -98,16 +98,16 @@ fn expect_submission<D: Device>(
     expect_refusals(rt, memory, refused);
 }
 
-/// The nine growths of a warrior that is submitted to an empty hill.
+/// The ten growths of a warrior that is submitted to an empty hill.
 fn expect_growths<D: Device>(
     rt: &impl Abort,
     store: &mut Store<D, &Refusing<Global>>,
     memory: &Refusing<Global>,
 ) {
-    for k in 0..9 {
+    for k in 0..10 {
         expect_submission(rt, store, memory, k, Reply::Memory, 1);
     }
-    expect_submission(rt, store, memory, 9, FIRST, 0);
+    expect_submission(rt, store, memory, 10, FIRST, 0);
 }
 
 /// A submission that is answered `Memory` leaves the hill as it was, so the first that isn't is entry 1.

@@ -132,7 +132,7 @@ fn refuse_alone<'m, D: Device>(
     waits(rt, peers, 0, 96);
 }
 
-/// The nine growths of an assembly are refused in turn: each time the source is answered `MEMORY`, and nothing is
+/// The ten growths of an assembly are refused in turn: each time the source is answered `MEMORY`, and nothing is
 /// under way. Then a submission is begun, and the growth for a table beside it is refused: that peer's session ends,
 /// and the submission goes on.
 fn refuse_beside<'m, D: Device>(
@@ -142,7 +142,7 @@ fn refuse_beside<'m, D: Device>(
     judge: &mut Judge<D, &'m Refusing<Global>>,
 ) {
     connect_three(rt, peers);
-    for passed in 0..9 {
+    for passed in 0..10 {
         come(rt, peers, 0, "SUBMIT\nMOV 0,1\n.\n");
         memory.refuse(passed, 1);
         step_on(rt, peers, judge, &[Step::Served(0)]);
@@ -150,7 +150,7 @@ fn refuse_beside<'m, D: Device>(
         send(rt, peers, 0, "MEMORY\n");
     }
     come(rt, peers, 0, "SUBMIT\nMOV 0,1\n.\n");
-    memory.refuse(9, 1);
+    memory.refuse(10, 1);
     step_on(rt, peers, judge, &[Step::Stepped(0)]);
     expect_number(rt, memory.refused(), 0, "refused");
     come(rt, peers, 1, "SHOW\n");
@@ -162,8 +162,8 @@ fn refuse_beside<'m, D: Device>(
     send(rt, peers, 0, "PLACED 1 1 0\n");
 }
 
-/// The nine growths of an assembly are refused in turn while the submission of another peer is under way: each time
-/// the source is answered `MEMORY`. With all nine it is put off, and judged after that submission.
+/// The ten growths of an assembly are refused in turn while the submission of another peer is under way: each time
+/// the source is answered `MEMORY`. With all ten it is put off, and judged after that submission.
 fn refuse_another<'m, D: Device>(
     rt: &impl Abort,
     memory: &'m Refusing<Global>,
@@ -171,7 +171,7 @@ fn refuse_another<'m, D: Device>(
     judge: &mut Judge<D, &'m Refusing<Global>>,
 ) {
     connect_three(rt, peers);
-    for passed in 0..9 {
+    for passed in 0..10 {
         come(rt, peers, 0, "SUBMIT\nMOV 0,1\n.\n");
         step_on(rt, peers, judge, &[Step::Stepped(0)]);
         come(rt, peers, 1, "SUBMIT\nMOV 0,1\n.\n");
@@ -185,7 +185,7 @@ fn refuse_another<'m, D: Device>(
     come(rt, peers, 0, "SUBMIT\nMOV 0,1\n.\n");
     step_on(rt, peers, judge, &[Step::Stepped(0)]);
     come(rt, peers, 1, "SUBMIT\nDAT 0,0\n.\n");
-    memory.refuse(9, 1);
+    memory.refuse(10, 1);
     step_on(rt, peers, judge, &[Step::PutOff(1)]);
     expect_number(rt, memory.refused(), 0, "refused");
     memory.refuse(0, 0);

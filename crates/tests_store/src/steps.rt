@@ -98,13 +98,13 @@ fn expect_begun<D: Device>(
     );
 }
 
-/// The same nine growths as of a submission in one go. The steps and the end need none.
+/// The same ten growths as of a submission in one go. The steps and the end need none.
 fn expect_growths<D: Device + Drop>(rt: &impl Abort, memory: &Refusing<Global>, device: D) {
     let mut store = created_on(rt, memory, device);
-    for k in 0..9 {
+    for k in 0..10 {
         expect_begun(rt, memory, &store, k, Some(Reply::Memory), 1);
     }
-    expect_begun(rt, memory, &store, 9, None, 0);
+    expect_begun(rt, memory, &store, 10, None, 0);
     memory.refuse(0, 0);
     let mut submission = begun(rt, &store, b"MOV 0,1");
     memory.refuse(0, u64::MAX);

@@ -40,34 +40,34 @@ macro_rules! commands {
 /// the command.
 type Row = (u64, u64, Command);
 
-/// A source is read into a buffer and assembled by 9 growths. A hill is created by 5, the members and an arena's four, after two for
+/// A source is read into a buffer and assembled by 10 growths. A hill is created by 5, the members and an arena's four, after two for
 /// the name of its new file, and opened by these and the code of the one warrior.
 /// One that is looked at is read into memory first. The hill of the old format that is moved to a file that is
 /// made has three warriors. A line that is answered takes one growth, before anything is done. Texts grow from 8 bytes to 16, 32 and 64, load text from 4.
 const COMMANDS: [Row; 8] = commands! {
-    1 + 9 + 5, 0 => "koth asm", "MOV 0, 1\n" => "ORG 0\nMOV.I  $     0, $     1\nEND\n", 0;
-    10 + 10 + 4 + 1, 0 => "koth fight growths.red growths.red --core=64 --cycles=100 --processes=8 --length=10 --distance=10 --rounds=2", ""
+    1 + 10 + 5, 0 => "koth asm", "MOV 0, 1\n" => "ORG 0\nMOV.I  $     0, $     1\nEND\n", 0;
+    11 + 11 + 4 + 1, 0 => "koth fight growths.red growths.red --core=64 --cycles=100 --processes=8 --length=10 --distance=10 --rounds=2", ""
         => "0 0 2\n", 0;
     1 + 2 + 5, 0 => small!("koth create growing.hill"), "" => "CREATED\n", 0;
     1 + 6 + 1 + 3, 0 => "koth show growths.hill", "" => "1 1 0 0 Unnamed by Anonymous\n.\n", 0;
     1 + 6 + 1 + 3 + 1 + 2 + 1, 0 => "koth show growths.hill --matches", "" => "1 1 0 0 Unnamed by Anonymous\n.\n    1\n 1  -\n", 0;
     1 + 6 + 1, 0 => "koth audit growths.hill", "" => "true\n", 0;
     1 + 1 + 5 + 3, 0 => "koth migrate old_growths.hill growing.hill", "" => "MIGRATED\n", 0;
-    6 + 1 + 1, 9 => "koth submit growths.hill growths.red", "" => "PLACED 2 2 2\n", 0;
+    6 + 1 + 1, 10 => "koth submit growths.hill growths.red", "" => "PLACED 2 2 2\n", 0;
 };
 
 /// The commands that only look at the hill. For one with another seed, a device and a hill on it are made in memory, and its warrior is
-/// written as a source and submitted by 33 growths. Then come two for the name of the new file.
+/// written as a source and submitted by 34 growths. Then come two for the name of the new file.
 const OTHERS: [Row; 5] = commands! {
     1 + 6 + 5, 0 => "koth show growths.hill --settings", ""
         => "--core 64 --cycles 100 --processes 8 --length 10 --distance 10 --rounds 2 --capacity 2 --read-limit 0 --write-limit 0\n", 0;
-    1 + 6 + 1 + 1, 9 => "koth try growths.hill growths.red", "" => "PLACED 2 2 2\n", 0;
+    1 + 6 + 1 + 1, 10 => "koth try growths.hill growths.red", "" => "PLACED 2 2 2\n", 0;
     1 + 6 + 1 + 2, 0 => "koth copy growths.hill growing.hill --audit", "" => "COPIED\n", 0;
-    1 + 6 + 1 + 5 + 33 + 1 + 2, 0 => "koth reseed growths.hill growing.hill --seed 8", "" => "RESEEDED\n", 0;
+    1 + 6 + 1 + 5 + 34 + 1 + 2, 0 => "koth reseed growths.hill growing.hill --seed 8", "" => "RESEEDED\n", 0;
     1 + 6 + 1 + 2 + 5, 0 => "koth create growing.hill --like growths.hill", "" => "CREATED\n", 0;
 };
 
-/// A trial whose matches are to be read: after the 18 growths up to its reply it has these 15.
+/// A trial whose matches are to be read: after the 19 growths up to its reply it has these 15.
 const TRIAL: &str = "koth try growths.hill growths.red --table";
 
 /// The files as the commands find them: the hill has these bytes, and the other one is not there.
@@ -245,12 +245,12 @@ fn of_the_matches_of_a_trial(rt: HostRuntime) {
 
 fn check_matches(rt: &(impl Abort + Host)) {
     let memory = Refusing::new(rt.alloc());
-    for k in 18..33 {
+    for k in 19..34 {
         check_trial(rt, &memory, k, 1, "PLACED 2 2 2\n");
     }
     let table =
         "PLACED 2 2 2\nwon  lost  tied  warrior  author\n  0     0     2  Unnamed  Anonymous\n";
-    check_trial(rt, &memory, 33, 0, table);
+    check_trial(rt, &memory, 34, 0, table);
     drop(memory);
 }
 

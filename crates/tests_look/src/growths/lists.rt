@@ -105,11 +105,11 @@ const LOSES: Reply = placed!(2, 2, 0);
 /// writes for it, and so on. The third, without a line, takes none, and the fourth writes to a sector that was written before. A warrior
 /// that finds no memory leaves its entry and its place to the next. Nothing follows `Disk`.
 const GROWTHS: [(u64, &[Reply]); 5] = [
-    (9, &[Reply::Memory, FIRST, EMPTY, LOSES]),
+    (10, &[Reply::Memory, FIRST, EMPTY, LOSES]),
     (5, &[Reply::Disk]),
-    (9, &[FIRST, Reply::Memory, EMPTY, LOSES]),
+    (10, &[FIRST, Reply::Memory, EMPTY, LOSES]),
     (4, &[FIRST, Reply::Disk]),
-    (9, &[FIRST, SECOND, EMPTY, Reply::Memory]),
+    (10, &[FIRST, SECOND, EMPTY, Reply::Memory]),
 ];
 
 /// Each growth after that of the list of the replies, and then none.

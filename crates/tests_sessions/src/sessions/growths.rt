@@ -44,7 +44,7 @@ type Refused = (u64, &'static str, SessionEnd, &'static str);
 /// header's follow.
 const WITHOUT_ONE: [Refused; 3] = [
     (4, "", SessionEnd::Memory, NONE),
-    (9, "MEMORY\nBAD\n", SessionEnd::Quit, NONE),
+    (10, "MEMORY\nBAD\n", SessionEnd::Quit, NONE),
     (5, "", SessionEnd::StoreFailed, NONE),
 ];
 
@@ -59,15 +59,15 @@ const OF_THREE: Ending = Ending {
 /// of rows and a text of 60 bytes, which grows from 8 to 64.
 const WITHOUT_THREE: [Refused; 7] = rows! {
     4 => "", SessionEnd::Memory, NONE;
-    9
+    10
         => "MEMORY\nPLACED 1 1 0\nPLACED 2 2 0\n1 1 6 1 Unnamed by Anonymous\n2 2 0 0 Unnamed by Anonymous\n.\n",
             SessionEnd::EndOfInput, WON;
     5 => "", SessionEnd::StoreFailed, NONE;
-    9
+    10
         => "PLACED 1 1 0\nMEMORY\nPLACED 2 2 0\n1 1 6 1 Unnamed by Anonymous\n2 2 0 0 Unnamed by Anonymous\n.\n",
             SessionEnd::EndOfInput, WON;
     4 => "PLACED 1 1 0\n", SessionEnd::StoreFailed, ONE;
-    9
+    10
         => "PLACED 1 1 0\nPLACED 2 2 2\nMEMORY\n1 1 2 1 Unnamed by Anonymous\n2 2 2 0 Unnamed by Anonymous\n.\n",
             SessionEnd::EndOfInput, TIED;
     5 => "PLACED 1 1 0\nPLACED 2 2 2\nFELL 3 0\n", SessionEnd::Memory, TIED;
