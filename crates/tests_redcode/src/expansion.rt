@@ -16,7 +16,7 @@ const DISTINCT: RawSettings = RawSettings {
     ..USUAL
 };
 
-pub(crate) fn defaults(rt: &impl Abort) -> Settings {
+fn defaults(rt: &impl Abort) -> Settings {
     Settings::new(DISTINCT).expect(rt, "they are settings")
 }
 

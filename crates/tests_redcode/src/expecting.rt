@@ -1,4 +1,4 @@
-//! How the tests compare and join texts, each by one function, so that no test carries a proof of that along.
+//! How the tests compare, by one function, so that no test carries a proof of that along.
 
 use std::fmt::{Debug, Display};
 use std::process::Abort;
@@ -11,11 +11,4 @@ pub(crate) fn expect_same<T: PartialEq + Debug>(
     note: impl Display + Drop,
 ) {
     assert_eq!(rt; *found, *due, "{note}");
-}
-
-/// Appends a text, which is dropped.
-pub(crate) fn append(rt: &impl Abort, all: &mut Vec<u8>, text: Vec<u8>) {
-    all.extend_from_slice(text.as_slice())
-        .expect(rt, "there is memory");
-    drop(text);
 }

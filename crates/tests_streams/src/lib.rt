@@ -12,7 +12,7 @@
 //! - `command_growths`: commands with each growth of memory refused in turn, and `contest_growths`: contests and
 //!   explanations.
 //!
-//! What a contract says is proved there and not tried here. `tests_program` tries what the commands do.
+//! What a contract says is proved there and not tried here. `bench/commands` tries what the commands do.
 #![tactic(auto)]
 
 #[cfg(test)]
