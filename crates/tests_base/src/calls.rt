@@ -2,8 +2,8 @@
 //! carries none of a call's along. A call that is to be done and isn't ends the test at once, so a test has no way
 //! out of its middle.
 
-use crate::expecting::expect_same;
-use sector_disk::{Device, Fault, MemoryDevice};
+use crate::expecting::{expect, expect_count, expect_same};
+use sector_disk::{Device, MemoryDevice};
 use std::alloc::{Allocator, Global};
 use std::process::Abort;
 
@@ -14,18 +14,18 @@ pub(crate) fn in_memory(rt: &(impl Abort + AllocGlobal), sectors: u32) -> Memory
 
 /// The device has `count` sectors.
 pub(crate) fn expect_sectors<D: Device>(rt: &impl Abort, device: &D, count: u32) {
-    expect_same(rt, &device.sectors(), &count, "sectors");
+    expect_count(rt, u64::from(device.sectors()), u64::from(count), "sectors");
 }
 
 /// The device has counted `count` faults.
 pub(crate) fn expect_faults<D: Device>(rt: &impl Abort, device: &D, count: u64) {
-    expect_same(rt, &device.faults(), &count, "faults");
+    expect_count(rt, device.faults(), count, "faults");
 }
 
 /// Writes one byte all over a sector.
 pub(crate) fn write<D: Device>(rt: &impl Abort, device: &mut D, n: u32, byte: u8) {
     assert!(rt; n < device.sectors());
-    expect_same(rt, &device.write(n, &[byte; 512]), &Ok(()), "a write");
+    expect(rt, device.write(n, &[byte; 512]).is_ok(), "a write");
 }
 
 /// Makes one byte all over a sector its stable content.
@@ -37,7 +37,7 @@ pub(crate) fn set<A: Allocator>(rt: &impl Abort, device: &mut MemoryDevice<A>, n
 /// A sync that fails, and counts one more than `faults`.
 fn expect_refused<D: Device>(rt: &impl Abort, device: &mut D, faults: u64) {
     expect_faults(rt, device, faults);
-    expect_same(rt, &device.sync(), &Err(Fault), "a sync");
+    expect(rt, device.sync().is_err(), "a sync that fails");
     expect_faults(rt, device, faults.saturating_add(1));
 }
 
@@ -45,7 +45,7 @@ fn expect_refused<D: Device>(rt: &impl Abort, device: &mut D, faults: u64) {
 pub(crate) fn read<D: Device>(rt: &impl Abort, device: &mut D, n: u32) -> [u8; 512] {
     let mut content = [255; 512];
     assert!(rt; n < device.sectors());
-    expect_same(rt, &device.read(n, &mut content), &Ok(()), "a read");
+    expect(rt, device.read(n, &mut content).is_ok(), "a read");
     content
 }
 
@@ -100,7 +100,7 @@ pub(crate) fn take<D: Device>(rt: &impl Abort, device: &mut D, step: Step) {
         Step::Faults(count) => expect_faults(rt, device, count),
         Step::Write(n, byte) => write(rt, device, n, byte),
         Step::Read(n, byte) => expect_read(rt, device, n, byte),
-        Step::Sync => expect_same(rt, &device.sync(), &Ok(()), "a sync"),
+        Step::Sync => expect(rt, device.sync().is_ok(), "a sync"),
         Step::Refused(faults) => expect_refused(rt, device, faults),
     }
 }

@@ -10,7 +10,12 @@ pub(crate) fn expect_same<T: PartialEq + Debug>(
     due: &T,
     note: impl Display + Drop,
 ) {
-    assert_eq!(rt; *found, *due, "{note}");
+    assert!(rt; *found == *due, "{note}: {found:?}, not {due:?}");
+}
+
+/// This many were found, and as many are due.
+pub(crate) fn expect_count(rt: &impl Abort, found: u64, due: u64, note: &str) {
+    expect_same(rt, &found, &due, note);
 }
 
 /// This holds. If it doesn't, the note says what was looked at.
@@ -20,7 +25,7 @@ pub(crate) fn expect(rt: &impl Abort, holds: bool, note: &str) {
 
 /// These bytes are those that are due.
 pub(crate) fn expect_bytes(rt: &impl Abort, found: &[u8], due: &[u8]) {
-    assert_eq!(rt; found, due);
+    expect_same(rt, &found, &due, "bytes");
 }
 
 /// A value is shown as this text.

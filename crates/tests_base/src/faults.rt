@@ -98,7 +98,7 @@ fn expect_memory(rt: &impl Abort, found: AsmFault) {
         line: 0,
         kind: AsmKind::Memory,
     };
-    assert_eq!(rt; found, memory);
+    expect_same(rt, &found, &memory, "a refusal");
 }
 
 #[test]

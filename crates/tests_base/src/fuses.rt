@@ -1,7 +1,7 @@
 //! Each kind of fuse, at each number of calls, over a script of eight calls.
 
 use crate::calls::{expect_faults, expect_sectors, in_memory, read, stopped};
-use crate::expecting::expect_same;
+use crate::expecting::{expect, expect_same};
 use sector_disk::{Device, Fault, FuseDevice, FuseKind, MemoryDevice};
 use std::alloc::Global;
 use std::process::Abort;
@@ -81,38 +81,37 @@ fn run_both<F: Device, D: Device>(
     for step in 0..CALLS {
         expect_call(rt, fused, kind, calls, step);
         if is_made(kind, calls, step) {
-            expect_same(rt, &call(sound, step), &Ok(()), "a call");
+            expect(rt, call(sound, step).is_ok(), "a call");
         }
     }
     expect_sectors(rt, fused, 2);
 }
 
-/// The device within a fuse met no fault, and has the images of a sound one.
+/// The device within a fuse met no fault, and has the images of a sound one. Answers them.
 fn expect_sound(
     rt: &impl Abort,
     inner: &MemoryDevice<Global>,
     sound: &MemoryDevice<Global>,
     kind: FuseKind,
     calls: u64,
-) {
+) -> [u8; 4] {
     expect_faults(rt, inner, 0);
-    expect_same(
-        rt,
-        &images(rt, inner),
-        &images(rt, sound),
-        format_args!("{kind:?} of {calls}"),
-    );
+    let left = images(rt, inner);
+    let due = images(rt, sound);
+    expect_same(rt, &left, &due, format_args!("{kind:?} of {calls}"));
+    left
 }
 
-/// The script on a fuse over a device in memory.
-fn run(rt: &(impl Abort + AllocGlobal), kind: FuseKind, calls: u64) {
+/// The script on a fuse over a device in memory. Answers the images that it leaves.
+fn run(rt: &(impl Abort + AllocGlobal), kind: FuseKind, calls: u64) -> [u8; 4] {
     let mut fused = FuseDevice::new(in_memory(rt, 2), calls, kind);
     let mut sound = in_memory(rt, 2);
     run_both(rt, &mut fused, &mut sound, kind, calls);
     let inner = fused.into_inner();
-    expect_sound(rt, &inner, &sound, kind, calls);
+    let left = expect_sound(rt, &inner, &sound, kind, calls);
     drop(inner);
     drop(sound);
+    left
 }
 
 #[test]
@@ -126,12 +125,8 @@ fn each_fuse_at_each_number_of_calls(rt: HostRuntime) {
 
 /// The images after a fuse of this kind at the second sync.
 fn expect_images_after(rt: &(impl Abort + AllocGlobal), kind: FuseKind, due: [u8; 4]) {
-    let mut device = FuseDevice::new(in_memory(rt, 2), 6, kind);
-    for step in 0..CALLS {
-        let _ = call(&mut device, step);
-    }
-    let inner = device.into_inner();
-    expect_same(rt, &images(rt, &inner), &due, format_args!("{kind:?}"));
+    let left = run(rt, kind, 6);
+    expect_same(rt, &left, &due, format_args!("{kind:?}"));
 }
 
 /// Counted by hand: kept all, lost all.

@@ -1,11 +1,11 @@
 //! Each growth refused in turn.
 
 use crate::calls::{Step, expect_faults, expect_read, expect_stopped, set, take_all, write};
-use crate::expecting::expect_same;
+use crate::expecting::{expect_count, expect_same};
 use sector_disk::{Device, FuseDevice, FuseKind, MemoryDevice};
 use std::alloc::{AllocError, Global};
 use std::process::Abort;
-use tests_fixtures::{Refusing, refuse_each};
+use tests_fixtures::Refusing;
 
 /// A device that takes its memory of this.
 type Counted<'m> = MemoryDevice<&'m Refusing<Global>>;
@@ -24,16 +24,18 @@ fn made<'m>(
 
 /// `count` growths were refused.
 fn expect_refusals(rt: &impl Abort, memory: &Refusing<Global>, count: u64) {
-    expect_same(rt, &memory.refused(), &count, "refusals");
+    expect_count(rt, memory.refused(), count, "refusals");
 }
 
-/// A device is there of which these calls can be made, or a growth was refused.
+/// A device is there of which these calls can be made, or `refusals` growths were refused.
 fn expect_either<D: Device + Drop>(
     rt: &impl Abort,
     memory: &Refusing<Global>,
     made: Result<D, AllocError>,
     steps: &[Step],
+    refusals: u64,
 ) {
+    expect_refusals(rt, memory, refusals);
     match made {
         Ok(mut device) => {
             expect_refusals(rt, memory, 0);
@@ -47,17 +49,19 @@ fn expect_either<D: Device + Drop>(
 /// What a new device of eight sectors is.
 const NEW: [Step; 2] = [Step::Sectors(8), Step::Read(7, 0)];
 
-/// A device of eight sectors is made, or a growth was refused.
-fn try_new(rt: &impl Abort, memory: &Refusing<Global>) {
-    expect_either(rt, memory, MemoryDevice::new(memory, 8), &NEW);
+/// A device of eight sectors is made, but for a refusal of this growth.
+fn try_new(rt: &impl Abort, memory: &Refusing<Global>, growth: u64, refusals: u64) {
+    memory.refuse(growth, 1);
+    let made = MemoryDevice::new(memory, 8);
+    expect_either(rt, memory, made, &NEW, refusals);
 }
 
 #[test]
 fn a_new_device(rt: HostRuntime) {
     let memory = Refusing::new(rt.alloc());
-    let runs = refuse_each(&memory, |_k| try_new(&rt, &memory));
+    try_new(&rt, &memory, 0, 1);
+    try_new(&rt, &memory, 1, 0);
     drop(memory);
-    expect_same(&rt, &runs, &2, "runs");
 }
 
 /// Two writes to the second sector.
@@ -66,19 +70,27 @@ const WRITTEN_TWICE: [Step; 2] = [Step::Write(1, 1), Step::Write(1, 2)];
 /// What a stop that keeps the first of them leaves.
 const KEPT_FIRST: [Step; 2] = [Step::Sectors(2), Step::Read(1, 1)];
 
-/// A stop that keeps the first of the writes to the second sector of two, or a growth was refused.
-fn try_stopped(rt: &impl Abort, memory: &Refusing<Global>, device: &Counted<'_>) {
-    expect_either(rt, memory, device.stopped(&[0, 1]), &KEPT_FIRST);
+/// A stop that keeps the first of the writes to the second sector of two, but for a refusal of this growth.
+fn try_stopped(
+    rt: &impl Abort,
+    memory: &Refusing<Global>,
+    device: &Counted<'_>,
+    growth: u64,
+    refusals: u64,
+) {
+    memory.refuse(growth, 1);
+    let made = device.stopped(&[0, 1]);
+    expect_either(rt, memory, made, &KEPT_FIRST, refusals);
 }
 
 #[test]
 fn a_stopped_device(rt: HostRuntime) {
     let memory = Refusing::new(rt.alloc());
     let device = made(&rt, &memory, 2, &WRITTEN_TWICE);
-    let runs = refuse_each(&memory, |_k| try_stopped(&rt, &memory, &device));
+    try_stopped(&rt, &memory, &device, 0, 1);
+    try_stopped(&rt, &memory, &device, 1, 0);
     drop(device);
     drop(memory);
-    expect_same(&rt, &runs, &2, "runs");
 }
 
 /// The one sector holds 0 for good, and 1 to 9 were written to it in this order.
@@ -98,30 +110,34 @@ fn write_number<D: Device>(rt: &impl Abort, device: &mut D, number: u8) {
     }
 }
 
-/// Nine writes of which this growth is refused. Answers how many were refused.
+/// Nine writes of which this growth is refused, or, if `refusals` is 0, none.
 fn write_nine<D: Device>(
     rt: &impl Abort,
     memory: &Refusing<Global>,
     device: &mut D,
     growth: u64,
-) -> u64 {
+    refusals: u64,
+) {
     memory.refuse(growth, 1);
     for number in 1..=9_u8 {
         write_number(rt, device, number);
     }
-    let refused = memory.refused();
-    expect_faults(rt, device, refused);
+    expect_same(
+        rt,
+        &memory.refused(),
+        &refusals,
+        format_args!("growth {growth}"),
+    );
+    expect_faults(rt, device, refusals);
     memory.refuse(0, 0);
-    refused
 }
 
-/// Nine writes of which this growth is refused: then each image is that of a device that met no refusal, and `refusals` were refused.
+/// The same: then each image is that of a device that met no refusal.
 fn expect_writes(rt: &impl Abort, memory: &Refusing<Global>, growth: u64, refusals: u64) {
     let mut device = made(rt, memory, 1, &[]);
-    let refused = write_nine(rt, memory, &mut device, growth);
+    write_nine(rt, memory, &mut device, growth, refusals);
     expect_nine_contents(rt, &device);
     drop(device);
-    expect_same(rt, &refused, &refusals, format_args!("growth {growth}"));
 }
 
 /// A sector's list of contents doubles from 4, so nine writes are three growths. A refused one is a counted fault that changes

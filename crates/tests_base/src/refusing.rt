@@ -1,6 +1,6 @@
 //! What the tests' allocator refuses, counts and gives back. Each test that refuses growths stands on it.
 
-use crate::expecting::{expect, expect_same};
+use crate::expecting::{expect, expect_count, expect_same};
 use std::alloc::{AllocError, Allocator, Global};
 use std::process::Abort;
 use tests_fixtures::{MOST_RUNS, Refusing, refuse_each};
@@ -35,12 +35,12 @@ fn has_byte(memory: &Refusing<Global>, byte: u8) -> bool {
 
 /// `count` growths were refused.
 fn expect_refused(rt: &impl Abort, memory: &Refusing<Global>, count: u64) {
-    expect_same(rt, &memory.refused(), &count, "growths refused");
+    expect_count(rt, memory.refused(), count, "growths refused");
 }
 
 /// These words are those that are due.
 fn expect_words(rt: &impl Abort, found: &[u64], due: &[u64]) {
-    assert_eq!(rt; found, due);
+    expect_same(rt, &found, &due, "words");
 }
 
 /// Whether growth `k` of nine words was refused. In the run after the last of them they are there.
@@ -49,7 +49,7 @@ fn is_refused(rt: &impl Abort, memory: &Refusing<Global>, k: u64) -> bool {
         Ok(words) => {
             expect_words(rt, words.as_slice(), &[1, 2, 3, 4, 5, 6, 7, 8, 9]);
             drop(words);
-            expect_same(rt, &k, &3, "the last run");
+            expect_count(rt, k, 3, "the last run");
             expect_refused(rt, memory, 0);
             false
         }
@@ -67,8 +67,8 @@ fn expect_each(rt: &impl Abort, memory: &Refusing<Global>) {
             met = met.saturating_add(1);
         }
     });
-    expect_same(rt, &runs, &4, "runs");
-    expect_same(rt, &met, &3, "refusals met");
+    expect_count(rt, runs, 4, "runs");
+    expect_count(rt, met, 3, "refusals met");
     expect(rt, has_nine(memory), "nine words");
 }
 
@@ -82,13 +82,13 @@ fn a_vec_grows_under_each_refusal(rt: HostRuntime) {
 /// Of four words, whose next growth is refused, and then isn't.
 fn expect_grown(rt: &impl Abort, memory: &Refusing<Global>, words: &mut Words<'_>) {
     for word in 1..5u64 {
-        words.push(word).expect(rt, "there is memory");
+        expect(rt, words.push(word).is_ok(), "there is memory");
     }
     memory.refuse(0, 1);
     expect(rt, words.push(5).is_err(), "a growth that is refused");
     expect_refused(rt, memory, 1);
     expect_words(rt, words.as_slice(), &[1, 2, 3, 4]);
-    words.push(5).expect(rt, "there is memory");
+    expect(rt, words.push(5).is_ok(), "there is memory");
     expect_refused(rt, memory, 1);
     expect_words(rt, words.as_slice(), &[1, 2, 3, 4, 5]);
 }
@@ -111,9 +111,9 @@ fn expect_one(rt: &impl Abort, memory: &Refusing<Global>, k: u64) {
 }
 
 fn expect_runs(rt: &impl Abort, memory: &Refusing<Global>) {
-    expect_same(rt, &refuse_each(memory, |_k| {}), &1, "runs of no growth");
+    expect_count(rt, refuse_each(memory, |_k| {}), 1, "runs of no growth");
     let most = refuse_each(memory, |k| expect_one(rt, memory, k));
-    expect_same(rt, &most, &MOST_RUNS, "runs");
+    expect_count(rt, most, MOST_RUNS, "runs");
     expect_refused(rt, memory, 0);
     expect(rt, has_byte(memory, 0u8), "a byte");
 }

@@ -46,7 +46,12 @@ fn expect_none(rt: &impl Abort, at: usize, byte: u8) {
     if let Some(place) = bytes.get_mut(at) {
         *place = byte;
     }
-    assert!(rt; is_none(&bytes, 8000), "{byte} at {at}");
+    expect_with(rt, is_none(&bytes, 8000), at, byte);
+}
+
+/// This holds with this byte at this place.
+fn expect_with(rt: &impl Abort, holds: bool, at: usize, byte: u8) {
+    assert!(rt; holds, "{byte} at {at}");
 }
 
 #[test]
@@ -73,12 +78,10 @@ fn is_none(bytes: &[u8; 8], core: u16) -> bool {
     Instr::from_bytes(bytes, core).is_none()
 }
 
-/// A title of these bytes and then zeros, if there is one.
-fn read(front: &[u8], at: usize, byte: u8) -> Option<Title> {
+/// A title of `I ~` and then zeros with another byte at this place, if there is one.
+fn read(at: usize, byte: u8) -> Option<Title> {
     let mut bytes = [0; 48];
-    for (place, letter) in bytes.iter_mut().zip(front) {
-        *place = *letter;
-    }
+    bytes[..3].copy_from_slice(b"I ~");
     if let Some(place) = bytes.get_mut(at) {
         *place = byte;
     }
@@ -87,7 +90,7 @@ fn read(front: &[u8], at: usize, byte: u8) -> Option<Title> {
 
 #[test]
 fn titles_are_read(rt: HostRuntime) {
-    expect_title(&rt, read(b"I ", 2, b'~'), b"I ~");
+    expect_title(&rt, read(2, b'~'), b"I ~");
     let whole = [b'a'; 48];
     expect_title(&rt, Title::read(&whole), &whole);
 }
@@ -103,13 +106,12 @@ const NO_TITLES: [(usize, u8); 5] = [(4, b'x'), (47, b'x'), (3, 1), (3, 0x7F), (
 
 /// The text with this byte is no title.
 fn expect_no_title(rt: &impl Abort, at: usize, byte: u8) {
-    let is_title = read(b"I ~", at, byte).is_some();
-    assert!(rt; !is_title, "{byte} at {at}");
+    expect_with(rt, read(at, byte).is_none(), at, byte);
 }
 
 #[test]
 fn bytes_that_are_no_title(rt: HostRuntime) {
-    expect(&rt, read(b"", 0, 0).is_none(), "zeros");
+    expect(&rt, Title::read(&[0; 48]).is_none(), "zeros");
     for (at, byte) in &NO_TITLES {
         expect_no_title(&rt, *at, *byte);
     }
