@@ -21,25 +21,26 @@ fn with_two<D: Device + Drop>(rt: &(impl Abort + AllocGlobal), device: D) -> D {
     close(store)
 }
 
+/// Puts a byte into one of a device's sectors.
+fn put_byte(rt: &impl Abort, device: &mut MemoryDevice<Global>, n: u32, at: usize, byte: u8) {
+    set_byte(device, n, at, byte).expect(rt, "it has the byte");
+}
+
 /// The same with another result: the rounds that the older won, and the younger.
 fn device_with(rt: &(impl Abort + AllocGlobal), older: u8, younger: u8) -> MemoryDevice<Global> {
     let mut device = with_two(rt, blank_in(rt, rt.alloc()));
-    set_byte(&mut device, 9, 389, older).expect(rt, "it has the byte");
-    set_byte(&mut device, 9, 391, younger).expect(rt, "it has the byte");
+    put_byte(rt, &mut device, 9, 389, older);
+    put_byte(rt, &mut device, 9, 391, younger);
     device
-}
-
-/// No result is untrue.
-fn expect_none_untrue<D: Device>(rt: &impl Abort, store: &mut Store<D, Global>) {
-    expect_true(rt, store);
-    assert!(rt; first_untrue(store).is_none());
 }
 
 /// No result of the hill that a device opens to is untrue.
 fn expect_all_true<D: Device + Drop>(rt: &(impl Abort + AllocGlobal), device: D) {
     let mut store = opened_on(rt, device);
-    expect_none_untrue(rt, &mut store);
+    expect_true(rt, &mut store);
+    let told = first_untrue(&mut store).is_some();
     drop(store);
+    expect_same(rt, &told, &false, "an untrue result");
 }
 
 #[test]
@@ -63,7 +64,7 @@ fn expect_untrue<D: Device + Drop>(
 
 /// An audit of this result says that it isn't the fights', and which one it is.
 fn expect_audit<D: Device>(rt: &impl Abort, store: &mut Store<D, Global>, older: u8, younger: u8) {
-    assert!(rt; !audit(store), "{older} and {younger}");
+    expect_same(rt, &audit(store), &false, "an audit");
     expect_told(rt, first_untrue(store), older, younger);
 }
 
@@ -145,8 +146,8 @@ fn expect_no_hill<D: Device + Drop>(rt: &(impl Abort + AllocGlobal), device: D) 
 /// A device that an earlier version wrote, which kept no results.
 fn earlier_device(rt: &(impl Abort + AllocGlobal)) -> MemoryDevice<Global> {
     let mut device = with_two(rt, blank_in(rt, rt.alloc()));
-    set_byte(&mut device, 0, 7, b'0').expect(rt, "it has the byte");
-    set_byte(&mut device, 1, 7, b'0').expect(rt, "it has the byte");
+    put_byte(rt, &mut device, 0, 7, b'0');
+    put_byte(rt, &mut device, 1, 7, b'0');
     device
 }
 

@@ -4,20 +4,15 @@ use crate::hills::{blank_in, created_on, opened_on};
 use hill_store::{Reply, Store};
 use sector_disk::{Device, MemoryDevice};
 use std::alloc::{Allocator, Global};
-use std::fmt::{Debug, Display};
+use std::fmt::Debug;
 use std::process::Abort;
 use tests_stores::{
     Answered, Counting, Numbers, audit, calls_of, close, count_rows, other_row, submit, submit_all,
 };
 
 /// What was found is what is due. If it isn't, the note says what was looked at.
-pub(crate) fn expect_same<T: PartialEq + Debug>(
-    rt: &impl Abort,
-    found: &T,
-    due: &T,
-    note: impl Display + Drop,
-) {
-    assert_eq!(rt; *found, *due, "{note}");
+pub(crate) fn expect_same<T: PartialEq + Debug>(rt: &impl Abort, found: &T, due: &T, note: &str) {
+    assert!(rt; *found == *due, "{note}: {found:?}, not {due:?}");
 }
 
 /// The store answers this to a source.
@@ -60,6 +55,15 @@ pub(crate) fn answered(
     answered_on(rt, blank_in(rt, rt.alloc()), answers)
 }
 
+/// The replies of the store to a list of sources.
+pub(crate) fn replies_of<D: Device, A: Allocator + Copy>(
+    rt: &impl Abort,
+    store: &mut Store<D, A>,
+    sources: &[&[u8]],
+) -> Vec<Reply, A> {
+    submit_all(store, sources).expect(rt, "there is memory")
+}
+
 /// The store answers this to a list of sources.
 pub(crate) fn expect_replies<D: Device, A: Allocator + Copy>(
     rt: &impl Abort,
@@ -67,7 +71,7 @@ pub(crate) fn expect_replies<D: Device, A: Allocator + Copy>(
     sources: &[&[u8]],
     replies: &[Reply],
 ) {
-    let found = submit_all(store, sources).expect(rt, "there is memory");
+    let found = replies_of(rt, store, sources);
     expect_same(rt, &found.as_slice(), &replies, "replies");
     drop(found);
 }
@@ -107,7 +111,7 @@ pub(crate) fn expect_true<D: Device, A: Allocator + Copy>(
     rt: &impl Abort,
     store: &mut Store<D, A>,
 ) {
-    assert!(rt; audit(store));
+    expect_same(rt, &audit(store), &true, "an audit");
 }
 
 /// The device of this store was asked for `calls` calls.

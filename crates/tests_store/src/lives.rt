@@ -46,14 +46,23 @@ fn stopped_in_a_slot(
     failed(rt, device).into_inner()
 }
 
+/// The device after the fault. The hill has two warriors there.
+fn failed_once(rt: &(impl Abort + AllocGlobal)) -> MemoryDevice<Global> {
+    let device = answered_on(rt, blank_within(rt, 25, FuseKind::FailLost), &FAILING);
+    expect_two(rt, device).into_inner()
+}
+
+/// What a stop may leave of this device has the hill of two, however much of the slot is kept.
+fn expect_images(rt: &(impl Abort + AllocGlobal), device: &MemoryDevice<Global>) {
+    for kept in 0..16 {
+        expect_image(rt, image_of(rt, device, &choice_of(kept)), kept);
+    }
+}
+
 #[test]
 fn a_life_of_a_hill(rt: HostRuntime) {
-    let device = answered_on(&rt, blank_within(&rt, 25, FuseKind::FailLost), &FAILING);
-    let device = expect_two(&rt, device);
-    let device = stopped_in_a_slot(&rt, device.into_inner());
-    for kept in 0..16 {
-        expect_image(&rt, image_of(&rt, &device, &choice_of(kept)), kept);
-    }
+    let device = stopped_in_a_slot(&rt, failed_once(&rt));
+    expect_images(&rt, &device);
     drop(device);
 }
 

@@ -55,18 +55,38 @@ fn judged_beside<D: Device, A: Allocator + Copy>(
     panic!(rt; "it takes more steps")
 }
 
+/// The submission of this source is given up after a step.
+fn given_up<D: Device, A: Allocator + Copy>(
+    rt: &impl Abort,
+    store: &mut Store<D, A>,
+    source: &[u8],
+) {
+    let mut submission = begun(rt, store, source);
+    drop(store.step(&mut submission));
+    drop(submission);
+}
+
+/// The submission of this source is judged beside these rows, and answered so.
+fn expect_judged<D: Device, A: Allocator + Copy>(
+    rt: &impl Abort,
+    store: &mut Store<D, A>,
+    source: &[u8],
+    rows: &[Numbers],
+    due: Reply,
+) {
+    let mut submission = begun(rt, store, source);
+    let verdict = judged_beside(rt, store, &mut submission, rows);
+    let reply = store.finish(submission, &verdict);
+    drop(verdict);
+    expect_same(rt, &reply, &due, "a reply in parts");
+}
+
 /// One that is given up leaves the table and the device as they were, and the next one is judged and placed as if it were the first.
 fn expect_parts<D: Device + Drop>(rt: &(impl Abort + AllocGlobal), device: D) {
     let mut store = created_on(rt, rt.alloc(), counted(device));
     expect_reply(rt, &mut store, b"MOV 0,1", FIRST);
-    let mut given_up = begun(rt, &store, b"DAT 0,0");
-    drop(store.step(&mut given_up));
-    drop(given_up);
-    let mut submission = begun(rt, &store, b"JMP 0");
-    let verdict = judged_beside(rt, &mut store, &mut submission, &ONE_ROW);
-    let reply = store.finish(submission, &verdict);
-    drop(verdict);
-    expect_same(rt, &reply, &SECOND, "a reply in parts");
+    given_up(rt, &mut store, b"DAT 0,0");
+    expect_judged(rt, &mut store, b"JMP 0", &ONE_ROW, SECOND);
     expect_table(rt, &store, &TWO_ROWS);
     expect_calls(rt, store, 5 + 7 + 7);
 }
@@ -76,48 +96,61 @@ fn a_submission_in_parts(rt: HostRuntime) {
     expect_parts(&rt, blank_in(&rt, rt.alloc()));
 }
 
+/// What a source is answered at once, if it is.
+fn reply_at_once<D: Device, A: Allocator + Copy>(store: &Store<D, A>) -> Option<Reply> {
+    match store.begin(b"MOV 0,1", None) {
+        Some(Err(reply)) => Some(reply),
+        Some(Ok(_)) | None => None,
+    }
+}
+
 /// What a source is answered at once, if growth `k` is refused, and how many growths were refused.
 fn expect_begun<D: Device>(
     rt: &impl Abort,
     memory: &Refusing<Global>,
     store: &Store<D, &Refusing<Global>>,
     k: u64,
-    reply: Option<Reply>,
-    refused: u64,
+    due: (Option<Reply>, u64),
 ) {
     memory.refuse(k, 1);
-    let found = match store.begin(b"MOV 0,1", None) {
-        Some(Err(reply)) => Some(reply),
-        Some(Ok(_)) | None => None,
-    };
-    expect_same(
-        rt,
-        &(found, memory.refused()),
-        &(reply, refused),
-        "what is begun",
-    );
+    let found = (reply_at_once(store), memory.refused());
+    expect_same(rt, &found, &due, "what is begun");
 }
 
-/// The same ten growths as of a submission in one go. The steps and the end need none.
-fn expect_growths<D: Device + Drop>(rt: &impl Abort, memory: &Refusing<Global>, device: D) {
-    let mut store = created_on(rt, memory, device);
+/// The same ten growths as of a submission in one go.
+fn expect_ten<D: Device>(
+    rt: &impl Abort,
+    memory: &Refusing<Global>,
+    store: &Store<D, &Refusing<Global>>,
+) {
     for k in 0..10 {
-        expect_begun(rt, memory, &store, k, Some(Reply::Memory), 1);
+        expect_begun(rt, memory, store, k, (Some(Reply::Memory), 1));
     }
-    expect_begun(rt, memory, &store, 10, None, 0);
+    expect_begun(rt, memory, store, 10, (None, 0));
     memory.refuse(0, 0);
-    let mut submission = begun(rt, &store, b"MOV 0,1");
+}
+
+/// The steps and the end need none.
+fn expect_first<D: Device>(
+    rt: &impl Abort,
+    memory: &Refusing<Global>,
+    store: &mut Store<D, &Refusing<Global>>,
+) {
+    let mut submission = begun(rt, store, b"MOV 0,1");
     memory.refuse(0, u64::MAX);
     let reply = match store.step(&mut submission) {
         Some(verdict) => store.finish(submission, &verdict),
         None => panic!(rt; "there is nobody to fight"),
     };
-    expect_same(
-        rt,
-        &(reply, memory.refused()),
-        &(FIRST, 0),
-        "without memory",
-    );
+    let found = (reply, memory.refused());
+    expect_same(rt, &found, &(FIRST, 0), "without memory");
+}
+
+/// The growths of a submission to a new hill on this device.
+fn expect_growths<D: Device + Drop>(rt: &impl Abort, memory: &Refusing<Global>, device: D) {
+    let mut store = created_on(rt, memory, device);
+    expect_ten(rt, memory, &store);
+    expect_first(rt, memory, &mut store);
     drop(store);
 }
 

@@ -92,9 +92,9 @@ fn expect_blank(
 ) {
     let to_open = refusal_to_open(rt.alloc(), blank_of(rt, sectors));
     let to_create = refusal_to_create(rt.alloc(), blank_of(rt, sectors), small(rt));
-    let found = (to_open, to_create);
-    let due = (Some(opening), creation);
-    expect_same(rt, &found, &due, format_args!("{sectors} sectors"));
+    let found = (sectors, to_open, to_create);
+    let due = (sectors, Some(opening), creation);
+    expect_same(rt, &found, &due, "sectors and refusals");
 }
 
 /// Sectors of a blank device, and how it is refused.

@@ -1,13 +1,13 @@
 //! A device that stops, or fails once, at each of its calls while a hill is created and four sources are submitted.
 
-use crate::expecting::{expect_replies, expect_same};
+use crate::expecting::{expect_replies, expect_same, replies_of};
 use crate::hills::{blank_within, created_on, image_of, opened_on, small};
 use hill_store::{Refusal, Reply, Store};
 use sector_disk::{Device, FuseKind, MemoryDevice};
 use std::alloc::Global;
 use std::process::Abort;
 use tests_stores::{
-    FIRST, SECTORS, SOURCES, close, create, fell, numbers_at, open, placed, submit, submit_all,
+    FIRST, SECTORS, SOURCES, close, create, fell, numbers_at, open, placed, submit,
 };
 
 /// Numbers in a choice: one for each sector.
@@ -54,29 +54,14 @@ fn due(calls: u64) -> (Opens, Opens) {
     }
 }
 
-/// The sector of the header that is written and not synced after `calls` calls, if one is.
-fn unsynced_header(calls: u64) -> usize {
-    match calls {
-        11 | 20 => 1,
-        _ => 0,
-    }
-}
-
-/// What is due if one sector alone is kept of all that was not synced.
+/// What is due if one sector alone is kept of all that was not synced. If that is a header, it stands in sector 0 or 1.
 fn due_with(n: usize, calls: u64) -> Opens {
     let (lost, kept) = due(calls);
-    if n == unsynced_header(calls) {
-        kept
-    } else {
-        lost
-    }
-}
-
-/// The device of a store that the four sources were submitted to.
-fn submitted_to<D: Device + Drop>(rt: &impl Abort, mut store: Store<D, Global>) -> D {
-    let replies = submit_all(&mut store, &SOURCES).expect(rt, "there is memory");
-    drop(replies);
-    close(store)
+    let header = match calls {
+        11 | 20 => 1,
+        _ => 0,
+    };
+    if n == header { kept } else { lost }
 }
 
 /// The device within a fuse of `calls` calls, after a creation and the four submissions.
@@ -87,7 +72,10 @@ fn stopped_behind(rt: &(impl Abort + AllocGlobal), calls: u64) -> MemoryDevice<G
 /// The same device, after a creation and the four submissions.
 fn submitted_on<D: Device + Drop>(rt: &(impl Abort + AllocGlobal), device: D) -> D {
     match create(rt.alloc(), device, small(rt)) {
-        Ok(store) => submitted_to(rt, store),
+        Ok(mut store) => {
+            drop(replies_of(rt, &mut store, &SOURCES));
+            close(store)
+        }
         Err((device, _)) => device,
     }
 }
@@ -141,11 +129,9 @@ fn expect_image(
     calls: u64,
 ) {
     let found = opens_to(rt, image_of(rt, device, choice));
-    expect_same(
-        rt,
-        &found,
-        &expected,
-        format_args!("{choice:?} kept after {calls}"),
+    assert!(rt;
+        found == expected,
+        "{choice:?} kept after {calls}: {found:?}, not {expected:?}"
     );
 }
 

@@ -46,12 +46,8 @@ fn device_with(
 fn expect_bad_slots(rt: &(impl Abort + AllocGlobal), calls: u64, refusal: Refusal) {
     let device = device_with(rt, 0, &header_of(rt, 2, 2, &ENTRIES));
     let found = refusal_to_open(rt.alloc(), FuseDevice::new(device, calls, FuseKind::Stop));
-    expect_same(
-        rt,
-        &found,
-        &Some(refusal),
-        format_args!("after {calls} calls"),
-    );
+    let due = Some(refusal);
+    expect_same(rt, &(calls, found), &(calls, due), "calls and a refusal");
 }
 
 /// A sync, two headers and the four sectors of the first slot are seven calls: if the eighth fails, the first slot is reported all the same.
