@@ -25,10 +25,16 @@ pub(crate) fn expect_faults<D: Device>(rt: &impl Abort, device: &D, count: u64) 
     expect_same(rt, &device.faults(), &count, "faults");
 }
 
-/// Writes one byte all over a sector.
-pub(crate) fn write<D: Device>(rt: &impl Abort, device: &mut D, n: u32, byte: u8) {
+/// A write of one byte all over a sector ends so.
+fn expect_written<D: Device>(
+    rt: &impl Abort,
+    device: &mut D,
+    n: u32,
+    byte: u8,
+    answer: Result<(), Fault>,
+) {
     assert!(rt; n < device.sectors());
-    expect_same(rt, &device.write(n, &[byte; 512]), &Ok(()), "a write");
+    expect_same(rt, &device.write(n, &[byte; 512]), &answer, "a write");
 }
 
 /// A sync that fails, and counts one more than `faults`.
@@ -41,30 +47,34 @@ fn expect_refused<D: Device>(rt: &impl Abort, device: &mut D, faults: u64) {
 /// A write to a sector that fails, and counts one more than `faults`.
 fn expect_unwritten<D: Device>(rt: &impl Abort, device: &mut D, n: u32, faults: u64) {
     expect_faults(rt, device, faults);
-    assert!(rt; n < device.sectors());
-    expect_same(rt, &device.write(n, &[7; 512]), &Err(Fault), "a write");
+    expect_written(rt, device, n, 7, Err(Fault));
     expect_faults(rt, device, faults.saturating_add(1));
 }
 
-/// What a sector holds, which a test never fills with 255.
-pub(crate) fn read<D: Device>(rt: &impl Abort, device: &mut D, n: u32) -> [u8; 512] {
+/// What a sector holds, which a test never fills with 255. The read ends so.
+fn read<D: Device>(
+    rt: &impl Abort,
+    device: &mut D,
+    n: u32,
+    answer: Result<(), Fault>,
+) -> [u8; 512] {
     let mut content = [255; 512];
     assert!(rt; n < device.sectors());
-    expect_same(rt, &device.read(n, &mut content), &Ok(()), "a read");
+    expect_same(rt, &device.read(n, &mut content), &answer, "a read");
     content
 }
 
-/// A sector reads as one byte all over.
-pub(crate) fn expect_read<D: Device>(rt: &impl Abort, device: &mut D, n: u32, byte: u8) {
-    let content = read(rt, device, n);
-    expect_same(rt, &content, &[byte; 512], format_args!("of sector {n}"));
+/// A sector reads as one byte all over, and as another at its end.
+fn expect_read<D: Device>(rt: &impl Abort, device: &mut D, n: u32, byte: u8, last: u8) {
+    let mut expected = [byte; 512];
+    expected[511] = last;
+    let content = read(rt, device, n, Ok(()));
+    expect_same(rt, &content, &expected, format_args!("of sector {n}"));
 }
 
 /// A read that fails, and counts the first fault.
 fn expect_unread<D: Device>(rt: &impl Abort, device: &mut D, n: u32) {
-    assert!(rt; n < device.sectors());
-    let answer = device.read(n, &mut [0; 512]);
-    expect_same(rt, &answer, &Err(Fault), "a read");
+    read(rt, device, n, Err(Fault));
     expect_faults(rt, device, 1);
 }
 
@@ -87,6 +97,8 @@ pub(crate) enum Step {
     Write(u32, u8),
     /// A sector reads as one byte all over.
     Read(u32, u8),
+    /// A sector reads as one byte all over, but for a zero at its end.
+    ReadPart(u32, u8),
     /// A sector can't be read, and that is the first fault.
     Unread(u32),
     /// A sector can't be written after this number of faults.
@@ -102,8 +114,9 @@ pub(crate) fn take<D: Device>(rt: &impl Abort, device: &mut D, step: Step) {
     match step {
         Step::Sectors(count) => expect_sectors(rt, device, count),
         Step::Faults(count) => expect_faults(rt, device, count),
-        Step::Write(n, byte) => write(rt, device, n, byte),
-        Step::Read(n, byte) => expect_read(rt, device, n, byte),
+        Step::Write(n, byte) => expect_written(rt, device, n, byte, Ok(())),
+        Step::Read(n, byte) => expect_read(rt, device, n, byte, byte),
+        Step::ReadPart(n, byte) => expect_read(rt, device, n, byte, 0),
         Step::Unread(n) => expect_unread(rt, device, n),
         Step::Unwritten(n, faults) => expect_unwritten(rt, device, n, faults),
         Step::Sync => expect_same(rt, &device.sync(), &Ok(()), "a sync"),
@@ -111,15 +124,14 @@ pub(crate) fn take<D: Device>(rt: &impl Abort, device: &mut D, step: Step) {
     }
 }
 
-/// These calls of a device come out so, one after another.
-pub(crate) fn take_all<D: Device>(rt: &impl Abort, device: &mut D, steps: &[Step]) {
-    for step in steps {
-        take(rt, device, *step);
-    }
+/// The text that a value is shown as.
+fn text_of<D: Display>(rt: &(impl Abort + AllocGlobal), told: &D) -> String {
+    format!(in rt.alloc(); "{told}").expect(rt, "there is memory")
 }
 
 /// A value is shown as this text.
 pub(crate) fn expect_text<D: Display>(rt: &(impl Abort + AllocGlobal), told: &D, text: &str) {
-    let shown = format!(in rt.alloc(); "{told}").expect(rt, "there is memory");
+    let shown = text_of(rt, told);
     expect_same(rt, &shown.as_str(), &text, "a text");
+    drop(shown);
 }

@@ -4,10 +4,7 @@ use crate::disk::{
     copy, create_folder, expect_blocks, expect_bytes, expect_nothing, expect_private, expect_zeros,
     link, remove, remove_folder, rename, set_length, write_file, write_filled,
 };
-use crate::hill_files::{
-    expect_kept, expect_locked, expect_made, expect_none_within, expect_opened,
-    expect_opened_beside,
-};
+use crate::hill_files::{expect_kept, expect_made, expect_opened};
 use crate::places::AtPath;
 use hill_file::{Existing, OpenFault, Sharing};
 use std::fs::File;
@@ -37,8 +34,8 @@ pub(crate) enum Deed<'t> {
     RemoveFolder,
     /// There is nothing.
     Nothing,
-    /// The file holds these bytes.
-    Holds(&'t [u8]),
+    /// The file holds these sectors.
+    Holds(&'t [[u8; 512]]),
     /// The file has this length, and each byte is zero.
     Zeros(usize),
     /// The least and the most blocks that it takes on the disk.
@@ -47,14 +44,8 @@ pub(crate) enum Deed<'t> {
     Private,
     /// Making a hill's file with this number of sectors ends so.
     Make(u32, Existing, Result<u32, OpenFault>),
-    /// None is made within what is there, as nothing is.
-    NoneWithin,
     /// Opening it ends so.
     Open(Sharing, Result<u32, OpenFault>),
-    /// It is opened for this program alone while it is open to be shared.
-    OpenBeside,
-    /// While another device has the lock, none takes it, and nothing of the file changes.
-    Locked,
     /// The file is refused, and each of its bytes stays.
     Kept,
 }
@@ -72,15 +63,12 @@ impl AtPath for Deed<'_> {
             Deed::CreateFolder => create_folder(rt, path),
             Deed::RemoveFolder => remove_folder(rt, path),
             Deed::Nothing => expect_nothing(rt, path),
-            Deed::Holds(bytes) => expect_bytes(rt, path, bytes),
+            Deed::Holds(sectors) => expect_bytes(rt, path, sectors.as_flattened()),
             Deed::Zeros(length) => expect_zeros(rt, path, length),
             Deed::Blocks(least, most) => expect_blocks(rt, path, least, most),
             Deed::Private => expect_private(rt, path),
             Deed::Make(asked, existing, answer) => expect_made(rt, path, asked, existing, answer),
-            Deed::NoneWithin => expect_none_within(rt, path),
             Deed::Open(sharing, answer) => expect_opened(rt, path, sharing, answer),
-            Deed::OpenBeside => expect_opened_beside(rt, path),
-            Deed::Locked => expect_locked(rt, path),
             Deed::Kept => expect_kept(rt, path),
         }
     }

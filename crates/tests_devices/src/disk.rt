@@ -21,8 +21,14 @@ pub(crate) fn expect_bytes(rt: &(impl Files + AllocGlobal + Abort), path: &str, 
 /// The file holds `length` bytes, each of them zero.
 pub(crate) fn expect_zeros(rt: &(impl Files + AllocGlobal + Abort), path: &str, length: usize) {
     let bytes = bytes_of(rt, path);
-    expect_same(rt, &bytes.len(), &length, "bytes");
-    assert!(rt; bytes.iter().all(|byte| *byte == 0));
+    let found = (bytes.len(), bytes.iter().all(|byte| *byte == 0));
+    drop(bytes);
+    expect_same(
+        rt,
+        &found,
+        &(length, true),
+        "bytes, and whether each is zero",
+    );
 }
 
 /// Writes a file of these bytes.

@@ -2,40 +2,13 @@
 
 use crate::calls::{Step, expect_same, expect_text, sectors_of};
 use crate::deeds::Deed;
-use crate::disk::{beside, bytes_of, expect_bytes};
-use crate::places::{Turn, at_place, on_hill};
-use hill_file::{Existing, HillFile, OpenFault, Sharing, TryLock};
-use std::alloc::Global;
+use crate::disk::{bytes_of, expect_bytes};
+use crate::places::{Turn, at_place, on_hill, on_opened};
+use hill_file::{Existing, HillFile, OpenFault, Sharing};
 use std::fs::File;
 use std::io::ErrorKind;
 use std::process::Abort;
 use std::rt::Files;
-
-/// The sectors of a hill's file that is made with `sectors`.
-pub(crate) fn sectors_made<R: Files>(
-    files: &R,
-    alloc: Global,
-    path: &str,
-    sectors: u32,
-    existing: Existing,
-) -> Result<u32, OpenFault>
-where
-    R::File: TryLock,
-{
-    sectors_of(HillFile::make(files, alloc, path, sectors, existing))
-}
-
-/// The sectors of a hill's file that is opened.
-pub(crate) fn sectors_opened<R: Files>(
-    files: &R,
-    path: &str,
-    sharing: Sharing,
-) -> Result<u32, OpenFault>
-where
-    R::File: TryLock,
-{
-    sectors_of(HillFile::open(files, path, sharing))
-}
 
 /// Making a hill's file with `asked` sectors ends so.
 pub(crate) fn expect_made(
@@ -45,7 +18,7 @@ pub(crate) fn expect_made(
     existing: Existing,
     answer: Result<u32, OpenFault>,
 ) {
-    let made = sectors_made(rt, rt.alloc(), path, asked, existing);
+    let made = sectors_of(HillFile::make(rt, rt.alloc(), path, asked, existing));
     expect_same(rt, &made, &answer, format_args!("{existing:?}"));
 }
 
@@ -56,45 +29,38 @@ pub(crate) fn expect_opened(
     sharing: Sharing,
     answer: Result<u32, OpenFault>,
 ) {
-    let opened = sectors_opened(rt, path, sharing);
+    let opened = sectors_of(HillFile::open(rt, path, sharing));
     expect_same(rt, &opened, &answer, format_args!("{sharing:?}"));
 }
 
-/// While another device has the lock, none takes it, and nothing of the file changes.
-pub(crate) fn expect_locked(rt: &(impl Files<File = File> + AllocGlobal + Abort), path: &str) {
-    let before = bytes_of(rt, path);
-    expect_opened(rt, path, Sharing::Alone, Err(OpenFault::Locked));
-    expect_made(rt, path, 5, Existing::Kept, Err(OpenFault::Locked));
-    expect_made(rt, path, 5, Existing::Overwritten, Err(OpenFault::Locked));
-    expect_bytes(rt, path, before.as_slice());
-}
+/// What is reported while another device has the lock.
+const HELD: Result<u32, OpenFault> = Err(OpenFault::Locked);
 
-/// One that takes no lock keeps none from taking it.
-pub(crate) fn expect_opened_beside(rt: &(impl Files<File = File> + Abort), path: &str) {
-    let shared = HillFile::open(rt, path, Sharing::Shared).expect(rt, "it is opened");
-    expect_opened(rt, path, Sharing::Alone, Ok(3));
-    drop(shared);
-}
-
-/// While a device of three sectors has the lock, no other takes it, but one that takes none reads beside it.
-const LOCKED: [Turn<'static>; 5] = [
+/// While a device of three sectors has the lock, no other takes it, and nothing of the file changes, but one that takes none reads beside it.
+const LOCKED: [Turn<'static>; 8] = [
     Turn::On(Step::Sectors(3)),
     Turn::On(Step::Write(1, 7)),
     Turn::On(Step::Sync),
-    Turn::At(Deed::Locked),
+    Turn::At(Deed::Open(Sharing::Alone, HELD)),
+    Turn::At(Deed::Make(5, Existing::Kept, HELD)),
+    Turn::At(Deed::Make(5, Existing::Overwritten, HELD)),
+    Turn::At(Deed::Holds(&[[0; 512], [7; 512], [0; 512]])),
     Turn::At(Deed::Open(Sharing::Shared, Ok(3))),
 ];
 
 /// When it is closed, another takes the lock.
-const UNLOCKED: [Deed<'static>; 3] = [
-    Deed::Open(Sharing::Alone, Ok(3)),
-    Deed::OpenBeside,
-    Deed::Remove(""),
+const UNLOCKED: [Deed<'static>; 2] = [Deed::Open(Sharing::Alone, Ok(3)), Deed::Remove("")];
+
+/// One that takes no lock keeps none from taking it.
+const SHARED: [Turn<'static>; 2] = [
+    Turn::At(Deed::Open(Sharing::Alone, Ok(3))),
+    Turn::At(Deed::Remove("")),
 ];
 
 #[test]
 fn one_program_at_a_time(rt: HostRuntime) {
     on_hill(&rt, rt.process(), "hill-lock", &[], &LOCKED, &UNLOCKED);
+    on_opened(&rt, rt.process(), "hill-lock", 3, Sharing::Shared, &SHARED);
 }
 
 /// It has its exact length, lies on the disk, and is its owner's alone. What is written to it is read.
@@ -196,17 +162,13 @@ const MISSING: Result<u32, OpenFault> = Err(OpenFault::Failed(ErrorKind::NotFoun
 const FOLDER: Result<u32, OpenFault> = Err(OpenFault::Failed(ErrorKind::IsADirectory));
 
 /// None is made in a folder that is missing.
-pub(crate) fn expect_none_within(rt: &(impl Files<File = File> + AllocGlobal + Abort), path: &str) {
-    let within = beside(rt, path, "/hill");
-    expect_made(rt, within.as_str(), 3, Existing::Kept, MISSING);
-}
+const NO_FOLDER: [Deed<'static>; 1] = [Deed::Make(3, Existing::Kept, MISSING)];
 
 /// Nothing is there, or a folder is.
-const NO_FILE: [Deed<'static>; 9] = [
+const NO_FILE: [Deed<'static>; 8] = [
     Deed::Open(Sharing::Alone, MISSING),
     Deed::Open(Sharing::Shared, MISSING),
     Deed::Nothing,
-    Deed::NoneWithin,
     Deed::CreateFolder,
     Deed::Open(Sharing::Alone, FOLDER),
     Deed::Make(3, Existing::Kept, FOLDER),
@@ -220,6 +182,7 @@ const UNFIT: Result<u32, OpenFault> = Err(OpenFault::Failed(ErrorKind::InvalidIn
 /// Nothing is there, a folder is, or what no hill can lie in.
 #[test]
 fn no_file(rt: HostRuntime) {
+    at_place(&rt, rt.process(), "hill-none/hill", &NO_FOLDER);
     at_place(&rt, rt.process(), "hill-none", &NO_FILE);
     expect_made(&rt, "/dev/zero", 3, Existing::Kept, UNFIT);
     expect_made(&rt, "/dev/zero", 3, Existing::Overwritten, UNFIT);

@@ -73,7 +73,7 @@ const COPIED: [Turn<'static>; 11] = [
     Turn::On(Step::Unwritten(2, 0)),
     Turn::On(Step::Refused(1)),
     Turn::On(Step::Read(2, 6)),
-    Turn::At(Deed::Holds(&[6; 1536])),
+    Turn::At(Deed::Holds(&[[6; 512], [6; 512], [6; 512]])),
     Turn::At(Deed::Write(&[0; 1536])),
     Turn::On(Step::Write(1, 7)),
     Turn::On(Step::Sync),
@@ -93,7 +93,7 @@ const BESIDE: [Turn<'static>; 7] = [
     Turn::On(Step::Sync),
     Turn::On(Step::Read(0, 6)),
     Turn::On(Step::Unwritten(2, 0)),
-    Turn::At(Deed::Holds(&[6; 1536])),
+    Turn::At(Deed::Holds(&[[6; 512], [6; 512], [6; 512]])),
     Turn::At(Deed::Remove("")),
 ];
 
@@ -165,10 +165,15 @@ fn fail_within<D: Device + Drop, E: Debug>(
     expect_faults(rt, &inner, 1);
 }
 
+/// The same of a new hill's file.
+fn fail_hill<'f, R: Files<File = File> + AllocGlobal + Abort>(rt: &'f R, path: &'f str) {
+    let hill = HillFile::make(rt, rt.alloc(), path, 3, Existing::Kept);
+    fail_within(rt, hill, path);
+}
+
 #[test]
 fn within_another_device(rt: HostRuntime) {
     let place = place(&rt, rt.process(), "hill-within");
-    let path = place.as_str();
-    let hill = HillFile::make(&rt, rt.alloc(), path, 3, Existing::Kept);
-    fail_within(&rt, hill, path);
+    fail_hill(&rt, place.as_str());
+    drop(place);
 }

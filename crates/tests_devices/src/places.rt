@@ -1,6 +1,6 @@
 //! Places for the files of tests, and what is done at them: one deed after another, or on a device there by turns.
 
-use crate::calls::{Step, take, take_all};
+use crate::calls::{Step, take};
 use crate::deeds::Deed;
 use crate::hill_files::expect_made;
 use hill_file::{Existing, HillFile, Sharing};
@@ -71,18 +71,6 @@ pub(crate) fn take_turns<D: Device>(
             Turn::At(deed) => deed.act(rt, path),
         }
     }
-}
-
-/// These calls are made of a device, which has to be made or opened, as `what` says, and is dropped then.
-pub(crate) fn on_device<D: Device + Drop, E: Debug>(
-    rt: &impl Abort,
-    got: Result<D, E>,
-    what: &str,
-    steps: &[Step],
-) {
-    let mut device = got.expect(rt, what);
-    take_all(rt, &mut device, steps);
-    drop(device);
 }
 
 /// These turns are taken on a device at a path, which has to be made or opened, as `what` says, and is dropped then.
