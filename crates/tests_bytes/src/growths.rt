@@ -2,10 +2,11 @@
 
 use crate::expecting::expect;
 use crate::settings::settings_from;
+use crate::slots::{has_results, is_same, is_widened_to, narrowed};
 use hill_bytes::{
-    Header, OldSlot, Slot, Wins, decode_header, decode_old_header, encode_header, encode_old_header,
+    Header, Slot, Wins, decode_header, decode_old_header, encode_header, encode_old_header,
 };
-use std::alloc::Global;
+use std::alloc::{Allocator, Global};
 use std::process::Abort;
 use tests_fixtures::{IMP, Refusing, SMALL};
 use war_types::{Title, Warrior};
@@ -28,34 +29,32 @@ fn capacity_in(rt: &impl Abort, bytes: &[u8; 512]) -> u16 {
     read.settings().capacity()
 }
 
-/// Slots of both formats hold the warrior, which has no results.
-fn expect_slot(rt: &impl Abort, warrior: &Warrior<&Refusing<Global>>) {
-    let slot = Slot::encode(warrior, &[Wins::NONE; 21]);
-    expect(rt, slot.results() == [Wins::NONE; 21], "results");
-    let old = OldSlot {
-        sectors: [slot.sectors[0], slot.sectors[3]],
-    };
+/// A slot has no results, isn't blank, and is what its sectors in the old format hold.
+fn expect_slot(rt: &impl Abort, slot: &Slot) {
+    expect(rt, has_results(slot, &[Wins::NONE; 21]), "results");
     expect(
         rt,
-        old.widened().sectors == slot.sectors,
+        is_widened_to(&narrowed(slot), slot),
         "a slot of the old format",
     );
-    expect(rt, Slot::blank().sectors != slot.sectors, "no blank slot");
+    expect(rt, !is_same(slot, &Slot::blank()), "no blank slot");
 }
 
 /// A warrior of one instruction, which has its memory from here.
-fn warrior_in<'m>(rt: &impl Abort, memory: &'m Refusing<Global>) -> Warrior<&'m Refusing<Global>> {
-    let code = Vec::from_slice(memory, &[IMP]).expect(rt, "there is memory");
+fn warrior_in<A: Allocator>(rt: &impl Abort, alloc: A) -> Warrior<A> {
+    let settings = settings_from(rt, SMALL);
     let name = Title::new(b"", "Unnamed");
     let author = Title::new(b"", "Anonymous");
-    Warrior::new(code, 0, name, author, &settings_from(rt, SMALL)).expect(rt, "it fits")
+    let code = Vec::from_slice(alloc, &[IMP]).expect(rt, "there is memory");
+    Warrior::new(code, 0, name, author, &settings).expect(rt, "it fits")
 }
 
 /// With every growth refused, headers and the slots of a warrior are made and read.
-fn expect_bytes(rt: &impl Abort, memory: &Refusing<Global>, warrior: &Warrior<&Refusing<Global>>) {
+fn expect_bytes<A: Allocator>(rt: &impl Abort, memory: &Refusing<Global>, warrior: &Warrior<A>) {
     memory.refuse(0, u64::MAX);
     expect(rt, header_in_both(rt) == (0, 2), "headers");
-    expect_slot(rt, warrior);
+    let slot = Slot::encode(warrior, &[Wins::NONE; 21]);
+    expect_slot(rt, &slot);
     expect(rt, memory.refused() == 0, "growths refused");
     memory.refuse(0, 0);
 }

@@ -74,7 +74,8 @@ fn is_old_header_with(bytes: &[u8; 512], at: usize, byte: u8) -> bool {
     is_old_header(&other)
 }
 
-fn set(bytes: &mut [u8; 512], at: usize, byte: u8) {
+/// Puts another byte at this place.
+pub(crate) fn set(bytes: &mut [u8; 512], at: usize, byte: u8) {
     if let Some(place) = bytes.get_mut(at) {
         *place = byte;
     }

@@ -1,6 +1,7 @@
 //! The sectors of a slot, and what is no slot's.
 
 use crate::expecting::{expect, expect_bytes};
+use crate::headers::set;
 use crate::settings::{of_length, settings_from};
 use crate::warriors::expect_parts;
 use hill_bytes::{OldSlot, Slot, Wins};
@@ -14,27 +15,20 @@ const STORED: [u8; 16] = [1, 6, 1, 1, 0, 0, 0, 1, 0, 4, 0, 0, 0, 0, 0, 63];
 
 const DAT: Instr = instruction!(Dat.F Immediate 0, Immediate 63);
 
-/// Puts bytes into a sector, from a place on.
-fn put(content: &mut [u8; 512], at: usize, bytes: &[u8]) {
-    for (place, byte) in content.iter_mut().skip(at).zip(bytes) {
-        *place = *byte;
-    }
-}
-
 /// The first sector of the slot below.
 fn front() -> [u8; 512] {
     let mut content = [0; 512];
-    put(&mut content, 0, STORED.as_slice());
+    content[..16].copy_from_slice(&STORED);
     content
 }
 
 /// The last sector of the slot below.
 fn back() -> [u8; 512] {
     let mut content = [0; 512];
-    put(&mut content, 288, &[0, 2, 0, 1, b'I', b'm', b'p']);
-    put(&mut content, 340, b"Ann");
-    put(&mut content, 397, &[2]);
-    put(&mut content, 471, &[1]);
+    content[288..295].copy_from_slice(&[0, 2, 0, 1, b'I', b'm', b'p']);
+    content[340..343].copy_from_slice(b"Ann");
+    content[397] = 2;
+    content[471] = 1;
     content
 }
 
@@ -66,13 +60,18 @@ fn read(rt: &(impl Abort + AllocGlobal), settings: &Settings, slot: &Slot) -> Wa
     read.expect(rt, "there is memory").expect(rt, "its warrior")
 }
 
+/// Whether both slots have the same sectors.
+pub(crate) fn is_same(found: &Slot, due: &Slot) -> bool {
+    found.sectors == due.sectors
+}
+
 /// Whether the warrior and its results are stored as this slot.
 fn is_stored_as(warrior: &Warrior<Global>, results: &[Wins; 21], slot: &Slot) -> bool {
-    Slot::encode(warrior, results).sectors == slot.sectors
+    is_same(&Slot::encode(warrior, results), slot)
 }
 
 /// Whether these are the results that a slot holds.
-fn has_results(slot: &Slot, results: &[Wins; 21]) -> bool {
+pub(crate) fn has_results(slot: &Slot, results: &[Wins; 21]) -> bool {
     slot.results() == *results
 }
 
@@ -112,7 +111,7 @@ fn expect_spoilt(
     byte: u8,
 ) {
     let mut slot = stored();
-    put(slot.sectors.get_mut(n).expect(rt, "a sector"), at, &[byte]);
+    set(slot.sectors.get_mut(n).expect(rt, "a sector"), at, byte);
     expect_no_warrior(rt, is_warrior(rt, settings, &slot), n, at, byte);
 }
 
@@ -201,7 +200,8 @@ const NUMBERS: [(usize, usize, u8); 8] = [
 
 /// Nothing stands between the code and the fields.
 fn is_zero_between(last: &[u8; 512]) -> bool {
-    last[64..288].iter().all(|byte| *byte == 0)
+    let blank = [0; 512];
+    &last[64..288] == &blank[64..288]
 }
 
 /// The sectors of a warrior of 200 instructions.
@@ -231,7 +231,7 @@ fn expect_same_code(rt: &impl Abort, found: &Warrior<Global>, due: &Warrior<Glob
 }
 
 /// A slot in the old format: the second sector has its code, and then the fields of the last one.
-fn narrowed(slot: &Slot) -> OldSlot {
+pub(crate) fn narrowed(slot: &Slot) -> OldSlot {
     let mut last = slot.sectors[1];
     last[288..].copy_from_slice(&slot.sectors[3][288..]);
     OldSlot {
@@ -248,8 +248,8 @@ fn slot_of_hundred(rt: &(impl Abort + AllocGlobal)) -> Slot {
 }
 
 /// Whether a slot of the old format holds the same as this one.
-fn is_widened_to(old: &OldSlot, slot: &Slot) -> bool {
-    old.widened().sectors == slot.sectors
+pub(crate) fn is_widened_to(old: &OldSlot, slot: &Slot) -> bool {
+    is_same(&old.widened(), slot)
 }
 
 /// In the old format instructions 64 to 99 stand in front of the fields.

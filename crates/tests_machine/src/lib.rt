@@ -8,15 +8,17 @@
 //! - `matches`: the seeds, places and counts of matches;
 //! - `replays`: the events of a round's turns.
 //!
-//! `expecting` has how the tests compare. What they expect was worked by hand. A test here calls only what those crates
-//! offer to all others. It must not show what a contract could say instead. `tests_hills` tries hills, and which calls
-//! take memory.
+//! `expecting` has how the tests compare, and `making` what they begin with. What they expect was worked by hand. A test
+//! here calls only what those crates offer to all others. It must not show what a contract could say instead.
+//! `tests_hills` tries hills, and which calls take memory.
 #![tactic(auto)]
 
 #[cfg(test)]
 mod expecting;
 #[cfg(test)]
 mod machine;
+#[cfg(test)]
+mod making;
 #[cfg(test)]
 mod matches;
 #[cfg(test)]

@@ -1,8 +1,9 @@
-use crate::expecting::expect_same;
+use crate::expecting::{expect, expect_of, expect_same};
+use crate::making::{fitting, new_arena, settings_of};
 use mars_core::{Arena, Outcome, Side, Turned};
 use std::alloc::Global;
 use std::process::Abort;
-use tests_fixtures::{DIE, IMP, SMALL, STAY, dat, direct, instr, instruction, warrior};
+use tests_fixtures::{DIE, IMP, SMALL, STAY, dat, direct, instr, instruction};
 use war_types::{Instr, Mode, Modifier, Op, RawSettings, Settings};
 
 mod cleared;
@@ -35,9 +36,9 @@ fn begun(
         codes[0].len() <= at && at <= core && codes[1].len() <= core - at,
         "they have no room"
     );
-    let older = warrior(rt.alloc(), codes[0], settings).expect(rt, "it fits");
-    let younger = warrior(rt.alloc(), codes[1], settings).expect(rt, "it fits");
-    let mut arena = Arena::new(rt.alloc(), settings).expect(rt, "there is memory");
+    let older = fitting(rt, codes[0], settings);
+    let younger = fitting(rt, codes[1], settings);
+    let mut arena = new_arena(rt, settings);
     arena.begin(&older, &younger, place, first);
     drop(younger);
     drop(older);
@@ -46,7 +47,7 @@ fn begun(
 
 /// An arena in which the first side, with this code at 0, is to move; the second has a DAT at 32.
 fn arena_of(rt: &(impl Abort + AllocGlobal), code: &[Instr]) -> Arena<Global> {
-    let settings = Settings::new(SMALL).expect(rt, "they are settings");
+    let settings = settings_of(rt, SMALL);
     begun(rt, &settings, [code, &[DIE]], 32, Side::First)
 }
 
@@ -61,7 +62,7 @@ fn is_process(arena: &Arena<Global>, side: Side, i: u32, due: Option<u16>) -> bo
 /// These addresses have these cells.
 fn check_cells(rt: &impl Abort, arena: &Arena<Global>, cells: &[(u16, Instr)]) {
     for (at, due) in cells {
-        assert!(rt; is_cell(arena, *at, *due), "at {at}");
+        expect_of(rt, &arena.cell(*at), &Some(*due), "at", at);
     }
 }
 
@@ -90,12 +91,7 @@ fn wrong_process(arena: &Arena<Global>, due: &[u16]) -> Option<u32> {
 }
 
 fn check_process(rt: &impl Abort, arena: &Arena<Global>, side: Side, i: u32, due: Option<u16>) {
-    expect_same(
-        rt,
-        &arena.process(side, i),
-        &due,
-        format_args!("process {i}"),
-    );
+    expect_of(rt, &arena.process(side, i), &due, "process", &i);
 }
 
 fn check_count(rt: &impl Abort, arena: &Arena<Global>, side: Side, due: usize) {
@@ -112,17 +108,18 @@ fn check_outcome(rt: &impl Abort, arena: &mut Arena<Global>, due: Outcome) {
     expect_same(rt, &arena.play(), &due, "the end");
 }
 
-/// The core has these cells and none after them, the first side this queue, and the second its one process.
-fn check_left(
+/// After the next turn the core has these cells and none after them, the first side this queue, and the second its one process.
+fn check_turned(
     rt: &impl Abort,
-    arena: &Arena<Global>,
+    arena: &mut Arena<Global>,
     code: &[Instr],
     left: &[Instr],
     queue: &[u16],
 ) {
+    expect_of(rt, &arena.turn(), &turned_to(queue), "the turn of", &code);
     let wrong = (wrong_cell(arena, left), wrong_process(arena, queue));
-    expect_same(rt, &wrong, &(None, None), format_args!("{code:?}"));
-    assert!(rt; arena.cell(64).is_none());
+    expect_of(rt, &wrong, &(None, None), "what is left of", &code);
+    expect(rt, arena.cell(64).is_none(), "no cell after the last");
     check_count(rt, arena, Side::First, queue.len());
     check_count(rt, arena, Side::Second, 1);
     check_process(rt, arena, Side::Second, 0, Some(32));
@@ -140,8 +137,6 @@ fn turned_to(queue: &[u16]) -> Turned {
 /// One turn of this code leaves these cells, none after them, and this queue.
 fn check_turn(rt: &(impl Abort + AllocGlobal), code: &[Instr], left: &[Instr], queue: &[u16]) {
     let mut arena = arena_of(rt, code);
-    let turned = arena.turn();
-    expect_same(rt, &turned, &turned_to(queue), format_args!("{code:?}"));
-    check_left(rt, &arena, code, left, queue);
+    check_turned(rt, &mut arena, code, left, queue);
     drop(arena);
 }

@@ -1,14 +1,14 @@
 ghost use Rattle.std.specs.Prelude.{◌≡◌};
+ghost use Rattle.war_types.specs.Warrior.{Fits};
 
-use crate::expecting::expect_same;
+use crate::expecting::{expect_of, expect_same};
+use crate::making::{fitting, new_arena, settings_of};
 use koth_match::{Bout, fight, next_seed, position};
 use mars_core::Arena;
 use std::alloc::Global;
 use std::process::Abort;
-use tests_fixtures::{
-    BACK, DIE, IMP, LARGEST, SMALL, STAY, USUAL, dat, instruction, rows, small, warrior,
-};
-use war_types::{Instr, RawSettings, Settings};
+use tests_fixtures::{BACK, DIE, IMP, LARGEST, SMALL, STAY, USUAL, dat, instruction, rows, small};
+use war_types::{Instr, RawSettings, Settings, Warrior};
 
 #[test]
 fn seeds_follow_one_another(rt: HostRuntime) {
@@ -40,9 +40,9 @@ const POSITIONS: [(RawSettings, u32, u16); 10] = rows! {
 };
 
 fn check_position(rt: &impl Abort, raw: RawSettings, seed: u32, due: u16) {
-    let settings = Settings::new(raw).expect(rt, "they are settings");
+    let settings = settings_of(rt, raw);
     let found = position(seed, &settings);
-    expect_same(rt, &found, &due, format_args!("seed {seed}"));
+    expect_of(rt, &found, &due, "seed", &seed);
 }
 
 #[test]
@@ -66,13 +66,28 @@ pub(crate) fn fight_twice(
     requires { arena.old.settings ≡ settings.now }
     ensures { arena.new.settings ≡ arena.old.settings }
 {
-    let older = warrior(rt.alloc(), older, settings).expect(rt, "it fits");
-    let younger = warrior(rt.alloc(), younger, settings).expect(rt, "it fits");
-    let first = fight(arena, &older, &younger, settings);
-    let again = fight(arena, &older, &younger, settings);
+    let older = fitting(rt, older, settings);
+    let younger = fitting(rt, younger, settings);
+    let found = fought_twice(arena, &older, &younger, settings);
     drop(younger);
     drop(older);
-    (first, again)
+    found
+}
+
+/// The same of these two.
+fn fought_twice(
+    arena: &mut Arena<Global>,
+    older: &Warrior<Global>,
+    younger: &Warrior<Global>,
+    settings: &Settings,
+) -> (Bout, Bout)
+    requires settings { arena.old.settings ≡ settings.now }
+    requires older { Fits settings.now older.now }
+    requires younger { Fits settings.now younger.now }
+    ensures { arena.new.settings ≡ arena.old.settings }
+{
+    let first = fight(arena, older, younger, settings);
+    (first, fight(arena, older, younger, settings))
 }
 
 /// The result of a match of two warriors that start at their first instructions.
@@ -82,8 +97,8 @@ fn bout_of(
     younger: &[Instr],
     raw: RawSettings,
 ) -> Counts {
-    let settings = Settings::new(raw).expect(rt, "they are settings");
-    let mut arena = Arena::new(rt.alloc(), &settings).expect(rt, "there is memory");
+    let settings = settings_of(rt, raw);
+    let mut arena = new_arena(rt, &settings);
     let (first, again) = fight_twice(rt, &mut arena, older, younger, &settings);
     drop(arena);
     expect_same(rt, &first, &again, "a match is the same again");
@@ -94,7 +109,7 @@ fn bout_of(
 fn check_bout(rt: &(impl Abort + AllocGlobal), codes: &[Instr; 2], raw: RawSettings, due: Counts) {
     let [older, younger] = *codes;
     let found = bout_of(rt, &[older], &[younger], raw);
-    expect_same(rt, &found, &due, format_args!("{codes:?}"));
+    expect_of(rt, &found, &due, "a match of", codes);
 }
 
 /// The older and the younger, the rounds, and their result.
@@ -155,7 +170,7 @@ const UNDER_LIMITS: [(u32, u32, Counts); 7] = [
 fn check_dropping(rt: &(impl Abort + AllocGlobal), read_limit: u32, write_limit: u32, due: Counts) {
     let raw = small!(distance: 32, read_limit: read_limit, write_limit: write_limit);
     let found = bout_of(rt, &DROPPING, &[STAY], raw);
-    expect_same(rt, &found, &due, format_args!("{read_limit} {write_limit}"));
+    expect_of(rt, &found, &due, "limits", &(read_limit, write_limit));
 }
 
 /// A warrior that drops a bomb on each fourth cell, against one that stays where it is, 32 cells ahead of it. Without limits the seventh

@@ -1,12 +1,13 @@
 //! Replays: the events of a round's turns, worked by hand.
 
-use crate::expecting::{expect, expect_same};
+use crate::expecting::{expect, expect_of, expect_same};
+use crate::making::{fitting, new_arena, settings_of};
 use koth_replay::{Event, Opening, Replay, replay};
-use mars_core::{Arena, Outcome, Side};
+use mars_core::{Outcome, Side};
 use std::alloc::{AllocError, Allocator, Global};
 use std::process::Abort;
-use tests_fixtures::{DIE, IMP, Refusing, SMALL, STAY, instruction, warrior};
-use war_types::{Instr, Settings};
+use tests_fixtures::{DIE, IMP, Refusing, SMALL, STAY, instruction};
+use war_types::Instr;
 
 /// A round of these two codes in a core of 64 cells, with `most` turns kept at most, if there is memory for it here. The younger is loaded at 11
 /// in round 0 and at 32 in round 1.
@@ -17,11 +18,11 @@ fn replayed_in<A: Allocator + Copy>(
     round: u16,
     most: u32,
 ) -> Result<Replay<A>, AllocError> {
-    let settings = Settings::new(SMALL).expect(rt, "they are settings");
+    let settings = settings_of(rt, SMALL);
     assert!(rt; round < settings.rounds(), "there is no such round");
-    let older = warrior(rt.alloc(), codes[0], &settings).expect(rt, "it fits");
-    let younger = warrior(rt.alloc(), codes[1], &settings).expect(rt, "it fits");
-    let mut arena = Arena::new(rt.alloc(), &settings).expect(rt, "there is memory");
+    let older = fitting(rt, codes[0], &settings);
+    let younger = fitting(rt, codes[1], &settings);
+    let mut arena = new_arena(rt, &settings);
     let found = replay(alloc, &mut arena, &older, &younger, &settings, round, most);
     drop(arena);
     drop(younger);
@@ -42,12 +43,7 @@ fn replayed(
 /// A turn has these events.
 fn check_turn(rt: &impl Abort, replay: &Replay<Global>, turn: usize, due: &[Event]) {
     assert!(rt; turn < replay.turns());
-    expect_same(
-        rt,
-        &replay.events_of(turn),
-        &due,
-        format_args!("turn {turn}"),
-    );
+    expect_of(rt, &replay.events_of(turn), &due, "turn", &turn);
 }
 
 /// There are these turns, and no others.
@@ -134,7 +130,7 @@ fn a_process_that_ends(rt: HostRuntime) {
 /// The same round, of two turns, has `turns` if `most` are kept at most.
 fn check_kept(rt: &(impl Abort + AllocGlobal), most: u32, turns: usize, is_cut: bool) {
     let replay = replayed(rt, [&[DIE], &[STAY]], 1, most);
-    expect_same(rt, &replay.turns(), &turns, format_args!("{most}"));
+    expect_of(rt, &replay.turns(), &turns, "turns of at most", &most);
     check_end(rt, &replay, is_cut, Outcome::Second);
     drop(replay);
 }
@@ -230,7 +226,7 @@ fn check_within(
     memory.refuse(k, 1);
     let found = (turns_within(rt, memory), memory.refused());
     let refused = if due.is_none() { 1 } else { 0 };
-    expect_same(rt, &found, &(due, refused), format_args!("at growth {k}"));
+    expect_of(rt, &found, &(due, refused), "growth", &k);
 }
 
 /// For a round of one turn: what is loaded, the turn's events, and the list of turns.

@@ -24,14 +24,24 @@ fn expect_no_hill<D: Device + Drop>(rt: &(impl Abort + AllocGlobal), device: D) 
     device
 }
 
+/// The device has what the program wrote, or what was written of the hill as it stands.
+fn expect_sectors(rt: &impl Abort, device: &mut MemoryDevice<Global>, stands: bool) {
+    for n in 0..10 {
+        let content = if stands {
+            standing_content_of(n)
+        } else {
+            sector_of(n)
+        };
+        expect_sector(rt, device, n, &content);
+    }
+}
+
 /// The hill of a device that was moved from the one that the program wrote, to which nothing is written.
 fn moved_from_earlier(rt: &(impl Abort + AllocGlobal)) -> Store<MemoryDevice<Global>, Global> {
     let old = expect_no_hill(rt, earlier(rt));
     let moved = moved(rt.alloc(), old, blank_of(rt, 18));
     let (mut old, store) = moved.expect(rt, "it is moved");
-    for n in 0..10 {
-        expect_sector(rt, &mut old, n, &sector_of(n));
-    }
+    expect_sectors(rt, &mut old, false);
     drop(old);
     store
 }
@@ -56,19 +66,15 @@ fn expect_fall<D: Device + Drop>(rt: &impl Abort, mut store: Store<D, Global>) {
     drop(store);
 }
 
-/// The limits of reads and of writes.
-fn limits_of<D: Device>(store: &Store<D, Global>) -> (u16, u16) {
-    let settings = store.hill().settings();
-    (settings.read_limit(), settings.write_limit())
-}
-
 /// The rows of the hill.
 const ROWS: [Numbers; 3] = [(4, 92, 0), (2, 35, 2), (1, 21, 3)];
 
 /// The table is that of the hill, and its results are those of the matches.
 fn expect_the_hill<D: Device>(rt: &impl Abort, store: &mut Store<D, Global>) {
     expect_true(rt, store);
-    expect_same(rt, &limits_of(store), &(800, 800), "limits");
+    let settings = store.hill().settings();
+    let limits = (settings.read_limit(), settings.write_limit());
+    expect_same(rt, &limits, &(800, 800), "limits of reads and of writes");
     expect_table(rt, store, &ROWS);
 }
 
@@ -100,8 +106,6 @@ fn a_moved_hill_has_the_same_bytes(rt: HostRuntime) {
     let mut new = close(store);
     let mut again = narrowed(rt.alloc(), &mut new, 4).expect(&rt, "it has room");
     drop(new);
-    for n in 0..10 {
-        expect_sector(&rt, &mut again, n, &standing_content_of(n));
-    }
+    expect_sectors(&rt, &mut again, true);
     drop(again);
 }

@@ -3,18 +3,13 @@
 use hill_store::{Reply, Store};
 use sector_disk::{Device, MemoryDevice};
 use std::alloc::{Allocator, Global};
-use std::fmt::{Debug, Display};
+use std::fmt::Debug;
 use std::process::Abort;
 use tests_stores::{Numbers, audit, count_rows, holds, other_row, submit};
 
 /// What was found is what is due. If it isn't, the note says what was looked at.
-pub(crate) fn expect_same<T: PartialEq + Debug>(
-    rt: &impl Abort,
-    found: &T,
-    due: &T,
-    note: impl Display + Drop,
-) {
-    assert_eq!(rt; *found, *due, "{note}");
+pub(crate) fn expect_same<T: PartialEq + Debug>(rt: &impl Abort, found: &T, due: &T, note: &str) {
+    assert!(rt; *found == *due, "{note}: {found:?}, not {due:?}");
 }
 
 /// The store answers this to a source.
@@ -71,7 +66,7 @@ pub(crate) fn expect_true<D: Device, A: Allocator + Copy>(
     rt: &impl Abort,
     store: &mut Store<D, A>,
 ) {
-    assert!(rt; audit(store));
+    expect_same(rt, &audit(store), &true, "an audit");
 }
 
 /// The two rows of a store whose results are those of the matches. It is dropped.

@@ -160,6 +160,12 @@ fn a_warrior_that_fills_its_slot(rt: HostRuntime) {
     expect_equal(&rt, close(store), written, 1);
 }
 
+/// Writes a content into one of a device's sectors.
+fn write_into(rt: &impl Abort, device: &mut MemoryDevice<Global>, n: u32, content: &[u8; 512]) {
+    assert!(rt; n < device.sectors(), "it has the sector");
+    device.write(n, content).expect(rt, "there is memory");
+}
+
 /// The device in the old format, of which nothing is synced.
 fn unsynced(
     rt: &(impl Abort + AllocGlobal),
@@ -167,9 +173,7 @@ fn unsynced(
 ) -> MemoryDevice<Global> {
     let mut device = blank_of(rt, 8);
     for n in 0..8 {
-        let content = content_of(rt, whole, n);
-        assert!(rt; n < device.sectors(), "it has the sector");
-        device.write(n, &content).expect(rt, "there is memory");
+        write_into(rt, &mut device, n, &content_of(rt, whole, n));
     }
     device
 }

@@ -70,12 +70,7 @@ fn expect_images(rt: &(impl Abort + AllocGlobal), device: &MemoryDevice<Global>,
     for image in 0..images_of(calls) {
         let found = holds_the_hill(rt, image_of(rt, device, &choice_of(image)));
         let due = if image % 2 == 0 { lost } else { kept };
-        expect_same(
-            rt,
-            &found,
-            &due,
-            format_args!("image {image} after {calls}"),
-        );
+        expect_same(rt, &(image, calls, found), &(image, calls, due), "an image");
     }
 }
 

@@ -34,16 +34,11 @@ fn written(rt: &(impl Abort + AllocGlobal)) -> MemoryDevice<Global> {
 /// The warrior that is submitted as this entry stands on the hill.
 fn expect_placed(rt: &impl Abort, store: &mut Store<MemoryDevice<Global>, Global>, expected: u64) {
     let source: &[u8] = if expected <= 20 { b"DAT 0,0" } else { b"JMP 0" };
-    let found = placed_as(submit(store, source));
-    expect_same(rt, &found, &Some(expected), "an entry");
-}
-
-/// The entry of a warrior that is placed.
-fn placed_as(reply: Reply) -> Option<u64> {
-    match reply {
+    let found = match submit(store, source) {
         Reply::Placed { entry, .. } => Some(entry),
         _ => None,
-    }
+    };
+    expect_same(rt, &found, &Some(expected), "an entry");
 }
 
 /// The same in the old format.
@@ -72,9 +67,9 @@ fn row(place: u64) -> Numbers {
 fn expect_table(rt: &impl Abort, store: &Store<MemoryDevice<Global>, Global>) {
     expect_rows(rt, store, 20);
     for place in 0..20 {
-        let found = row_at(store, place);
-        let due = Some(row(place as u64));
-        expect_same(rt, &found, &due, format_args!("place {place}"));
+        let found = (place, row_at(store, place));
+        let due = (place, Some(row(place as u64)));
+        expect_same(rt, &found, &due, "a row");
     }
 }
 
@@ -142,6 +137,12 @@ fn expect_headers(rt: &(impl Abort + AllocGlobal), new: &mut MemoryDevice<Global
     expect_sector(rt, new, 1, &[0; 512]);
 }
 
+fn expect_slots(rt: &impl Abort, device: &mut MemoryDevice<Global>) {
+    for slot in 0..21 {
+        expect_slot(rt, device, slot);
+    }
+}
+
 #[test]
 fn a_full_hill_is_moved(rt: HostRuntime) {
     let moved = moved_from(rt.alloc(), old_device(&rt), blank_of(&rt, SECTORS));
@@ -149,8 +150,6 @@ fn a_full_hill_is_moved(rt: HostRuntime) {
     expect_the_hill(&rt, &mut store);
     let mut new = close(store);
     expect_headers(&rt, &mut new);
-    for slot in 0..21 {
-        expect_slot(&rt, &mut new, slot);
-    }
+    expect_slots(&rt, &mut new);
     expect_in(&rt, opened(rt.alloc(), new).expect(&rt, "it opens"));
 }

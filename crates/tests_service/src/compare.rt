@@ -1,18 +1,21 @@
 //! What tests compare, each by a function.
+//!
+//! They call what `assert!` and `assert_eq!` stand for, since the proof of those takes several times as long.
 
+use std::fmt::Debug;
+use std::panic::assert_failed;
 use std::process::Abort;
 
 /// This holds.
 pub(crate) fn expect(rt: &impl Abort, holds: bool, note: &str) {
-    assert!(rt; holds, "{note}");
+    if !holds {
+        rt.panic(note)
+    }
 }
 
-/// This text is the one that is due.
-pub(crate) fn expect_same(rt: &impl Abort, found: &str, due: &str) {
-    assert_eq!(rt; found, due);
-}
-
-/// These bytes are those that are due.
-pub(crate) fn expect_bytes(rt: &impl Abort, found: &[u8], due: &[u8]) {
-    assert_eq!(rt; found, due);
+/// What was found is what is due.
+pub(crate) fn expect_same<T: PartialEq + Debug>(rt: &impl Abort, found: &T, due: &T) {
+    if *found != *due {
+        assert_failed(rt, "==", found, due, "")
+    }
 }

@@ -17,7 +17,7 @@ mod polls;
 mod serving;
 
 /// What is done in `two_at_once`.
-const TWO_AT_ONCE: [Cue; 11] = [
+static TWO_AT_ONCE: [Cue; 11] = [
     (0, Deed::Calls(1)),
     (0, Deed::Takes(1, ALL)),
     (0, Deed::Says(1, "SUBMIT\nMOV ")),
@@ -31,7 +31,7 @@ const TWO_AT_ONCE: [Cue; 11] = [
     (6, Deed::Ends(2)),
 ];
 
-const TWO_AT_ONCE_DUE: [Due; 2] = [
+static TWO_AT_ONCE_DUE: [Due; 2] = [
     Due::Heard(1, "PLACED 2 2 2\nBAD\n"),
     Due::Heard(2, ".\nPLACED 1 1 0\n1 1 0 0 Unnamed by Anonymous\n.\n"),
 ];
@@ -43,7 +43,7 @@ fn two_at_once(rt: HostRuntime) {
 }
 
 /// What is done in `a_silent_peer`.
-const A_SILENT_PEER: [Cue; 7] = [
+static A_SILENT_PEER: [Cue; 7] = [
     (0, Deed::Calls(1)),
     (0, Deed::Takes(1, ALL)),
     (7, Deed::Says(1, "SUB")),
@@ -53,7 +53,7 @@ const A_SILENT_PEER: [Cue; 7] = [
     (60_006, Deed::Ends(2)),
 ];
 
-const A_SILENT_PEER_DUE: [Due; 6] = [
+static A_SILENT_PEER_DUE: [Due; 6] = [
     Due::Heard(1, ""),
     Due::Heard(2, "BAD\n"),
     Due::Closed(1, Some(60_007)),
@@ -69,7 +69,7 @@ fn a_silent_peer(rt: HostRuntime) {
 }
 
 /// What is done in `a_long_submission`.
-const A_LONG_SUBMISSION: [Cue; 10] = [
+static A_LONG_SUBMISSION: [Cue; 10] = [
     (0, Deed::Calls(2)),
     (0, Deed::Takes(2, ALL)),
     (0, Deed::Calls(1)),
@@ -82,7 +82,7 @@ const A_LONG_SUBMISSION: [Cue; 10] = [
     (90_000, Deed::Ends(2)),
 ];
 
-const A_LONG_SUBMISSION_DUE: [Due; 4] = [
+static A_LONG_SUBMISSION_DUE: [Due; 4] = [
     Due::Heard(1, "PLACED 1 1 0\n1 1 0 0 Unnamed by Anonymous\n.\n"),
     Due::Heard(2, ".\n"),
     Due::Closed(2, Some(90_000)),
@@ -96,7 +96,7 @@ fn a_long_submission(rt: HostRuntime) {
 }
 
 /// What is done in `a_page_that_posts`.
-const A_PAGE_THAT_POSTS: [Cue; 10] = [
+static A_PAGE_THAT_POSTS: [Cue; 10] = [
     (0, Deed::Calls(1)),
     (0, Deed::Takes(1, ALL)),
     (0, Deed::Says(1, POSTED)),
@@ -116,7 +116,7 @@ const A_PAGE_THAT_POSTS: [Cue; 10] = [
 const POSTED: &str =
     "POST / HTTP/1.1\r\nHost: 127.0.0.1\r\nContent-Length: 17\r\n\r\nSUBMIT\nMOV 0,1\n.\n";
 
-const A_PAGE_THAT_POSTS_DUE: [Due; 7] = [
+static A_PAGE_THAT_POSTS_DUE: [Due; 7] = [
     Due::Heard(1, ""),
     Due::Closed(1, Some(0)),
     Due::Told("1 ", &["connected", "Browser"]),
@@ -134,7 +134,7 @@ fn a_page_that_posts(rt: HostRuntime) {
 }
 
 /// What is done in `an_endless_line`.
-const AN_ENDLESS_LINE: [Cue; 7] = [
+static AN_ENDLESS_LINE: [Cue; 7] = [
     (0, Deed::Calls(1)),
     (0, Deed::Repeats(1, "0123456789abcdef", 65_536)),
     (0, Deed::Calls(2)),
@@ -144,7 +144,7 @@ const AN_ENDLESS_LINE: [Cue; 7] = [
     (9, Deed::Ends(1)),
 ];
 
-const AN_ENDLESS_LINE_DUE: [Due; 3] = [
+static AN_ENDLESS_LINE_DUE: [Due; 3] = [
     Due::Heard(2, "BAD\n"),
     Due::Told("1 ", &["connected", "By(EndOfInput)"]),
     Due::Line(2, "2 By(Quit)"),
@@ -157,7 +157,7 @@ fn an_endless_line(rt: HostRuntime) {
 }
 
 /// What is done in `a_peer_that_never_reads`.
-const A_PEER_THAT_NEVER_READS: [Cue; 8] = [
+static A_PEER_THAT_NEVER_READS: [Cue; 8] = [
     (0, Deed::Calls(1)),
     (0, Deed::Says(1, TITLED)),
     (0, Deed::Says(1, TITLED)),
@@ -176,7 +176,7 @@ MOV 0,1
 .
 ";
 
-const A_PEER_THAT_NEVER_READS_DUE: [Due; 4] = [
+static A_PEER_THAT_NEVER_READS_DUE: [Due; 4] = [
     Due::Heard(1, ""),
     Due::Heard(2, "BAD\n"),
     Due::Closed(1, Some(0)),
@@ -198,7 +198,7 @@ fn a_peer_that_never_reads(rt: HostRuntime) {
 }
 
 /// What is done in `a_peer_that_is_reset`.
-const A_PEER_THAT_IS_RESET: [Cue; 8] = [
+static A_PEER_THAT_IS_RESET: [Cue; 8] = [
     (0, Deed::Calls(1)),
     (0, Deed::Takes(1, 6)),
     (0, Deed::Says(1, "SUBMIT\nMOV 0,1\n.\nSHOW\n")),
@@ -209,7 +209,7 @@ const A_PEER_THAT_IS_RESET: [Cue; 8] = [
     (2, Deed::Ends(2)),
 ];
 
-const A_PEER_THAT_IS_RESET_DUE: [Due; 4] = [
+static A_PEER_THAT_IS_RESET_DUE: [Due; 4] = [
     Due::Heard(1, "PLACED"),
     Due::Heard(2, "1 1 0 0 Unnamed by Anonymous\n.\n"),
     Due::Closed(1, Some(1)),
@@ -223,7 +223,7 @@ fn a_peer_that_is_reset(rt: HostRuntime) {
 }
 
 /// What is done in `arrivals`.
-const ARRIVALS: [Cue; 13] = [
+static ARRIVALS: [Cue; 13] = [
     (0, Deed::Fails),
     (0, Deed::Calls(1)),
     (0, Deed::Takes(1, ALL)),
@@ -239,7 +239,7 @@ const ARRIVALS: [Cue; 13] = [
     (2_100, Deed::Ends(2)),
 ];
 
-const ARRIVALS_DUE: [Due; 7] = [
+static ARRIVALS_DUE: [Due; 7] = [
     Due::Heard(1, ""),
     Due::Heard(2, "BAD\n"),
     Due::Heard(3, "BAD\n"),

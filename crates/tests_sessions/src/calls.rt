@@ -1,6 +1,6 @@
 //! Sessions and their hills, as the tests call them. What is to be done and isn't ends the test at once.
 
-use crate::compare::{expect_end, expect_length, expect_number, expect_same};
+use crate::compare::expect_same;
 use hill_store::Store;
 use koth_session::{Counted, SessionEnd, session};
 use sector_disk::{Device, MemoryDevice};
@@ -49,7 +49,7 @@ pub(crate) fn expect_count<D: Device, A: Allocator + Copy>(
     count: usize,
 ) {
     let found = count_rows(store).expect(rt, "there is memory");
-    expect_length(rt, found, count);
+    expect_same(rt, &found, &count, "warriors");
 }
 
 /// How a session on a store ends.
@@ -98,9 +98,8 @@ pub(crate) fn expect_slow_session(
 ) {
     let mut output = Counted::new(writer(rt.alloc(), most, usize::MAX, FULL[0]));
     let (ended, found) = end_on_empty(rt, lines, &mut output);
-    expect_end(rt, ended, end, answers);
-    expect_number(rt, found, faults, answers);
-    expect_number(rt, output.faults(), 0, answers);
+    let found = (ended, found, output.faults());
+    expect_same(rt, &found, &(end, faults, 0), answers);
     let taken = output.into_inner().taken;
     expect_text(rt, &taken, answers);
     drop(taken);
@@ -134,5 +133,5 @@ pub(crate) fn end_on<R: Read, W: Write>(
 /// These bytes are this text.
 pub(crate) fn expect_text(rt: &impl Abort, bytes: &Vec<u8>, text: &str) {
     let found = str::from_utf8(bytes.as_slice()).expect(rt, "it is text");
-    expect_same(rt, found, text);
+    expect_same(rt, &found, &text, "answers");
 }

@@ -1,34 +1,21 @@
 //! What tests compare, each by a function.
+//!
+//! They call what `assert!` and `assert_eq!` stand for, since the proof of those takes several times as long.
 
-use koth_session::SessionEnd;
+use std::fmt::Debug;
+use std::panic::assert_failed;
 use std::process::Abort;
 
 /// This holds.
 pub(crate) fn expect(rt: &impl Abort, holds: bool, note: &str) {
-    assert!(rt; holds, "{note}");
+    if !holds {
+        rt.panic(note)
+    }
 }
 
-/// This text is the one that is due.
-pub(crate) fn expect_same(rt: &impl Abort, found: &str, due: &str) {
-    assert_eq!(rt; found, due);
-}
-
-/// These bytes are those that are due.
-pub(crate) fn expect_bytes(rt: &impl Abort, found: &[u8], due: &[u8]) {
-    assert_eq!(rt; found, due);
-}
-
-/// This length is the one that is due.
-pub(crate) fn expect_length(rt: &impl Abort, found: usize, due: usize) {
-    assert_eq!(rt; found, due);
-}
-
-/// This number is the one that is due.
-pub(crate) fn expect_number(rt: &impl Abort, found: u64, due: u64, note: &str) {
-    assert_eq!(rt; found, due, "{note}");
-}
-
-/// A session ended as is due.
-pub(crate) fn expect_end(rt: &impl Abort, found: SessionEnd, due: SessionEnd, note: &str) {
-    assert_eq!(rt; found, due, "at {note}");
+/// What was found is what is due. If it isn't, the note says what was looked at.
+pub(crate) fn expect_same<T: PartialEq + Debug>(rt: &impl Abort, found: &T, due: &T, note: &str) {
+    if *found != *due {
+        assert_failed(rt, "==", found, due, format_args!(": {note}"))
+    }
 }

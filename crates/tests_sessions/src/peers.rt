@@ -1,10 +1,10 @@
 //! Peers on a hill of two, on a device in memory.
 
-use crate::calls::empty_hill;
-use crate::compare::{expect, expect_bytes, expect_length};
+use crate::compare::{expect, expect_same};
+use crate::scripts::{Act, follow};
 use koth_session::{Judge, NotConnected, PeerEnd, Peers, Step};
 use sector_disk::Device;
-use std::alloc::{Allocator, Global};
+use std::alloc::Allocator;
 use std::process::Abort;
 
 /// Room for `most` peers.
@@ -18,7 +18,7 @@ pub(crate) fn connect<A: Allocator + Copy>(
     peers: &mut Peers<A>,
     number: Result<usize, NotConnected>,
 ) {
-    assert_eq!(rt; peers.connect(), number);
+    expect_same(rt, &peers.connect(), &number, "a peer");
 }
 
 /// A step serves this, after the steps of a submission that is under way, and after sources that are put off meanwhile.
@@ -32,7 +32,7 @@ pub(crate) fn serve<D: Device, A: Allocator + Copy>(
 }
 
 /// The same within this number of steps of an assembly.
-fn serve_within<D: Device, A: Allocator + Copy>(
+pub(crate) fn serve_within<D: Device, A: Allocator + Copy>(
     rt: &impl Abort,
     peers: &mut Peers<A>,
     judge: &mut Judge<D, A>,
@@ -51,7 +51,7 @@ fn serve_within<D: Device, A: Allocator + Copy>(
 
 /// This is what a step served.
 pub(crate) fn expect_step(rt: &impl Abort, found: Step, due: Step) {
-    assert_eq!(rt; found, due);
+    expect_same(rt, &found, &due, "a step");
 }
 
 /// A peer's session has ended so, or goes on.
@@ -61,19 +61,19 @@ pub(crate) fn ended<A: Allocator>(
     number: usize,
     end: Option<PeerEnd>,
 ) {
-    assert_eq!(rt; peers.end(number), end);
+    expect_same(rt, &peers.end(number), &end, "an end");
 }
 
 /// `count` bytes of answers wait for a peer.
 pub(crate) fn waits<A: Allocator>(rt: &impl Abort, peers: &Peers<A>, number: usize, count: usize) {
-    expect_length(rt, peers.unsent(number).len(), count);
+    expect_same(rt, &peers.unsent(number).len(), &count, "bytes that wait");
 }
 
 /// A peer has sent all of its bytes, and nothing more of it may come.
-fn close<A: Allocator>(rt: &impl Abort, peers: &mut Peers<A>, number: usize) {
+pub(crate) fn close<A: Allocator>(rt: &impl Abort, peers: &mut Peers<A>, number: usize) {
     peers.close(number);
     expect(rt, !peers.is_finished(number), "it is not finished");
-    expect_length(rt, peers.room(number), 0);
+    expect_same(rt, &peers.room(number), &0, "room");
 }
 
 /// These bytes of a peer come.
@@ -90,207 +90,144 @@ pub(crate) fn send<A: Allocator>(
     number: usize,
     answers: &str,
 ) {
-    expect_bytes(rt, peers.unsent(number), answers.as_bytes());
+    expect_same(rt, &peers.unsent(number), &answers.as_bytes(), "answers");
     let count = peers.unsent(number).len();
     peers.sent(number, count);
     waits(rt, peers, number, 0);
 }
 
-/// What peers do on a hill.
-#[derive(Clone, Copy)]
-enum Script {
-    InTurn,
-    OneHill,
-    Unread,
-    Spent,
-    Asked,
-}
-
-/// Peers, for `most` of whom there is room, do this on an empty hill.
-fn follow(rt: &(impl Abort + AllocGlobal), most: usize, script: Script) {
-    let mut judge = Judge::new(empty_hill(rt));
-    let mut peers = room_for(rt, rt.alloc(), most);
-    match script {
-        Script::InTurn => serve_in_turn(rt, &mut peers, &mut judge),
-        Script::OneHill => {
-            submit_and_show(rt, &mut peers, &mut judge);
-            end_each(rt, &mut peers, &mut judge);
-        }
-        Script::Unread => leave_unread(rt, &mut peers, &mut judge),
-        Script::Spent => spend(rt, &mut peers, &mut judge),
-        Script::Asked => ask(rt, &mut peers, &mut judge),
-    }
-    drop(peers);
-    drop(judge);
-}
-
 /// Of a peer with many commands one is served, and then the others' come.
+static IN_TURN: [Act; 12] = [
+    Act::Connect(&[0, 1, 2]),
+    Act::NotConnected(NotConnected::Full),
+    Act::Serve(&[Step::Nobody]),
+    Act::Come(0, "a\nb\nc\nd"),
+    Act::Come(2, "SHOW\nSH"),
+    Act::Serve(&[Step::Served(0), Step::Served(2), Step::Served(0)]),
+    Act::Come(1, "\n"),
+    Act::Come(2, "OW\n"),
+    Act::Serve(&[
+        Step::Served(1),
+        Step::Served(2),
+        Step::Served(0),
+        Step::Nobody,
+    ]),
+    Act::Send(0, "BAD\nBAD\nBAD\n"),
+    Act::Send(1, "BAD\n"),
+    Act::Send(2, ".\n.\n"),
+];
+
 #[test]
 fn in_turn(rt: HostRuntime) {
-    follow(&rt, 3, Script::InTurn);
-}
-
-fn serve_in_turn<D: Device>(
-    rt: &impl Abort,
-    peers: &mut Peers<Global>,
-    judge: &mut Judge<D, Global>,
-) {
-    for number in 0..3 {
-        connect(rt, peers, Ok(number));
-    }
-    connect(rt, peers, Err(NotConnected::Full));
-    serve(rt, peers, judge, Step::Nobody);
-    come(rt, peers, 0, "a\nb\nc\nd");
-    come(rt, peers, 2, "SHOW\nSH");
-    for number in [0, 2, 0] {
-        serve(rt, peers, judge, Step::Served(number));
-    }
-    come(rt, peers, 1, "\n");
-    come(rt, peers, 2, "OW\n");
-    for number in [1, 2, 0] {
-        serve(rt, peers, judge, Step::Served(number));
-    }
-    serve(rt, peers, judge, Step::Nobody);
-    send(rt, peers, 0, "BAD\nBAD\nBAD\n");
-    send(rt, peers, 1, "BAD\n");
-    send(rt, peers, 2, ".\n.\n");
+    follow(&rt, 3, &IN_TURN);
 }
 
 /// Three peers submit, the first one byte for byte, and a fourth asks for the table. It ends by `QUIT`, the others by the end of their input.
-#[test]
-fn one_hill(rt: HostRuntime) {
-    follow(&rt, 4, Script::OneHill);
-}
-
-fn submit_and_show<D: Device>(
-    rt: &impl Abort,
-    peers: &mut Peers<Global>,
-    judge: &mut Judge<D, Global>,
-) {
-    for number in 0..4 {
-        connect(rt, peers, Ok(number));
-    }
-    for byte in ["S", "U", "B", "M", "I", "T", "\r", "\n", "MOV 0,1\n", "."] {
-        come(rt, peers, 0, byte);
-        serve(rt, peers, judge, Step::Nobody);
-    }
-    come(rt, peers, 0, "\n");
-    come(rt, peers, 1, "SUBMIT\nJMP 0\n.\n");
-    come(rt, peers, 2, "SUBMIT\nDAT 0,0\n.\nSUBMIT\nDAT 0,0\n");
-    for number in 0..3 {
-        close(rt, peers, number);
-        serve(rt, peers, judge, Step::Served(number));
-    }
-    come(rt, peers, 3, "SHOW\nQUIT\nSHOW\n");
-    close(rt, peers, 3);
-    serve(rt, peers, judge, Step::Served(3));
-}
-
-/// How the four sessions end.
-const ENDS: [PeerEnd; 4] = [
-    PeerEnd::EndOfInput,
-    PeerEnd::EndOfInput,
-    PeerEnd::EndOfInput,
-    PeerEnd::Quit,
+static ONE_HILL: [Act; 30] = [
+    Act::Connect(&[0, 1, 2, 3]),
+    Act::Pieces(&["S", "U", "B", "M", "I", "T", "\r", "\n", "MOV 0,1\n", "."]),
+    Act::Come(0, "\n"),
+    Act::Come(1, "SUBMIT\nJMP 0\n.\n"),
+    Act::Come(2, "SUBMIT\nDAT 0,0\n.\nSUBMIT\nDAT 0,0\n"),
+    Act::Close(0),
+    Act::Serve(&[Step::Served(0)]),
+    Act::Close(1),
+    Act::Serve(&[Step::Served(1)]),
+    Act::Close(2),
+    Act::Serve(&[Step::Served(2)]),
+    Act::Come(3, "SHOW\nQUIT\nSHOW\n"),
+    Act::Close(3),
+    Act::Serve(&[Step::Served(3)]),
+    Act::Ended(3, None),
+    Act::Serve(&[Step::Served(3), Step::Nobody]),
+    Act::Send(0, "PLACED 1 1 0\n"),
+    Act::Send(1, "PLACED 2 2 2\n"),
+    Act::Send(2, "FELL 3 0\n"),
+    Act::Send(
+        3,
+        "1 1 2 1 Unnamed by Anonymous\n2 2 2 0 Unnamed by Anonymous\n.\n",
+    ),
+    Act::Ended(0, Some(PeerEnd::EndOfInput)),
+    Act::Finished(0, true),
+    Act::Ended(1, Some(PeerEnd::EndOfInput)),
+    Act::Finished(1, true),
+    Act::Ended(2, Some(PeerEnd::EndOfInput)),
+    Act::Finished(2, true),
+    Act::Ended(3, Some(PeerEnd::Quit)),
+    Act::Finished(3, true),
+    Act::Leave(1),
+    Act::Connect(&[1]),
 ];
 
-fn end_each<D: Device>(rt: &impl Abort, peers: &mut Peers<Global>, judge: &mut Judge<D, Global>) {
-    ended(rt, peers, 3, None);
-    serve(rt, peers, judge, Step::Served(3));
-    serve(rt, peers, judge, Step::Nobody);
-    send(rt, peers, 0, "PLACED 1 1 0\n");
-    send(rt, peers, 1, "PLACED 2 2 2\n");
-    send(rt, peers, 2, "FELL 3 0\n");
-    let table = "1 1 2 1 Unnamed by Anonymous\n2 2 2 0 Unnamed by Anonymous\n.\n";
-    send(rt, peers, 3, table);
-    for (number, end) in ENDS.iter().enumerate() {
-        ended(rt, peers, number, Some(*end));
-        expect(rt, peers.is_finished(number), "it is finished");
-    }
-    peers.leave(1, judge);
-    connect(rt, peers, Ok(1));
+#[test]
+fn one_hill(rt: HostRuntime) {
+    follow(&rt, 4, &ONE_HILL);
 }
 
 /// A peer that reads none of its answers is disconnected at 1,048,576 bytes of them: 262,144 lines of four bytes. The other one is served
 /// still.
+static UNREAD: [Act; 11] = [
+    Act::Connect(&[0, 1]),
+    Act::Lines(262_144),
+    Act::Waits(0, 1_048_576),
+    Act::Ended(0, None),
+    Act::Come(0, "\n"),
+    Act::Come(1, "\n"),
+    Act::Serve(&[Step::Served(1), Step::Served(0)]),
+    Act::Ended(0, Some(PeerEnd::Unread)),
+    Act::Waits(0, 1_048_576),
+    Act::Finished(0, false),
+    Act::Send(1, "BAD\n"),
+];
+
 #[test]
 fn unread(rt: HostRuntime) {
-    follow(&rt, 2, Script::Unread);
-}
-
-pub(crate) fn connect_two(rt: &impl Abort, peers: &mut Peers<Global>) {
-    connect(rt, peers, Ok(0));
-    connect(rt, peers, Ok(1));
-}
-
-fn leave_unread<D: Device>(
-    rt: &impl Abort,
-    peers: &mut Peers<Global>,
-    judge: &mut Judge<D, Global>,
-) {
-    connect_two(rt, peers);
-    for _ in 0..262_144 {
-        come(rt, peers, 0, "\n");
-        serve(rt, peers, judge, Step::Served(0));
-    }
-    waits(rt, peers, 0, 1_048_576);
-    ended(rt, peers, 0, None);
-    come(rt, peers, 0, "\n");
-    come(rt, peers, 1, "\n");
-    serve(rt, peers, judge, Step::Served(1));
-    serve(rt, peers, judge, Step::Served(0));
-    ended(rt, peers, 0, Some(PeerEnd::Unread));
-    waits(rt, peers, 0, 1_048_576);
-    expect(rt, !peers.is_finished(0), "it is not finished");
-    send(rt, peers, 1, "BAD\n");
+    follow(&rt, 2, &UNREAD);
 }
 
 /// A source whose assembly spends its steps is not submitted: its session ends, and nothing more of it is carried out. What it was answered
 /// is sent still, and the other one is served.
+static SPENT: [Act; 10] = [
+    Act::Connect(&[0, 1]),
+    Act::Come(0, "\nSUBMIT\nMOV 0, 1\n.\nSHOW\n"),
+    Act::Come(1, "SHOW\nSHOW\n"),
+    Act::Serve(&[Step::Served(0), Step::Served(1)]),
+    Act::ServeWithin(0, Step::Served(0)),
+    Act::Ended(0, Some(PeerEnd::StepsSpent)),
+    Act::Serve(&[Step::Served(1), Step::Nobody]),
+    Act::Send(0, "BAD\n"),
+    Act::Send(1, ".\n.\n"),
+    Act::Finished(0, true),
+];
+
 #[test]
 fn spent(rt: HostRuntime) {
-    follow(&rt, 2, Script::Spent);
-}
-
-fn spend<D: Device>(rt: &impl Abort, peers: &mut Peers<Global>, judge: &mut Judge<D, Global>) {
-    connect_two(rt, peers);
-    come(rt, peers, 0, "\nSUBMIT\nMOV 0, 1\n.\nSHOW\n");
-    come(rt, peers, 1, "SHOW\nSHOW\n");
-    serve(rt, peers, judge, Step::Served(0));
-    serve(rt, peers, judge, Step::Served(1));
-    serve_within(rt, peers, judge, 0, Step::Served(0));
-    ended(rt, peers, 0, Some(PeerEnd::StepsSpent));
-    serve(rt, peers, judge, Step::Served(1));
-    serve(rt, peers, judge, Step::Nobody);
-    send(rt, peers, 0, "BAD\n");
-    send(rt, peers, 1, ".\n.\n");
-    expect(rt, peers.is_finished(0), "it is finished");
+    follow(&rt, 2, &SPENT);
 }
 
 /// A browser's request is not carried out, and the turn waits for its peer to leave.
-#[test]
-fn asked(rt: HostRuntime) {
-    follow(&rt, 2, Script::Asked);
-}
-
-fn ask<D: Device>(rt: &impl Abort, peers: &mut Peers<Global>, judge: &mut Judge<D, Global>) {
-    connect_two(rt, peers);
-    come(rt, peers, 0, "a\nGET / HTTP/1.1\nb\n");
-    come(rt, peers, 1, "\n");
-    for (number, due) in [(0, true), (1, true), (2, false)] {
-        expect(rt, peers.is_due(number) == due, "whether a command is due");
-    }
-    for step in [
+static ASKED: [Act; 13] = [
+    Act::Connect(&[0, 1]),
+    Act::Come(0, "a\nGET / HTTP/1.1\nb\n"),
+    Act::Come(1, "\n"),
+    Act::Due(0, true),
+    Act::Due(1, true),
+    Act::Due(2, false),
+    Act::Serve(&[
         Step::Served(0),
         Step::Served(1),
         Step::Asked(0),
         Step::Asked(0),
-    ] {
-        serve(rt, peers, judge, step);
-    }
-    ended(rt, peers, 0, None);
-    send(rt, peers, 0, "BAD\n");
-    peers.leave(0, judge);
-    serve(rt, peers, judge, Step::Nobody);
-    expect(rt, !peers.is_due(0) & !peers.is_due(1), "no command is due");
+    ]),
+    Act::Ended(0, None),
+    Act::Send(0, "BAD\n"),
+    Act::Leave(0),
+    Act::Serve(&[Step::Nobody]),
+    Act::Due(0, false),
+    Act::Due(1, false),
+];
+
+#[test]
+fn asked(rt: HostRuntime) {
+    follow(&rt, 2, &ASKED);
 }

@@ -4,9 +4,10 @@ use crate::scripts::{Act, follow};
 use koth_session::{PeerEnd, Step};
 
 /// Sources of other peers that give no warrior are refused while a submission is under way: each peer's next one in its next turn.
-const REFUSED_BESIDE: [Act; 13] = [
+static REFUSED_BESIDE: [Act; 14] = [
+    Act::Connect(&[0, 1, 2]),
     Act::Come(0, "SUBMIT\nMOV 0,1\n.\n"),
-    Act::Serve(Step::Served(0)),
+    Act::Serve(&[Step::Served(0)]),
     Act::Come(0, "SUBMIT\nJMP 0\n.\n"),
     Act::Steps(&[Step::Stepped(0)]),
     Act::Come(1, "SUBMIT\nJMP\n.\nSUBMIT\n.\n"),
@@ -22,14 +23,15 @@ const REFUSED_BESIDE: [Act; 13] = [
 
 #[test]
 fn refused_beside(rt: HostRuntime) {
-    follow(&rt, &REFUSED_BESIDE);
+    follow(&rt, 3, &REFUSED_BESIDE);
 }
 
 /// A source that gives a warrior is put off while the submission of another peer is under way, once, and judged at the hill after it. The next
 /// command of its peer is carried out in its turn.
-const PUT_OFF_BESIDE: [Act; 15] = [
+static PUT_OFF_BESIDE: [Act; 16] = [
+    Act::Connect(&[0, 1, 2]),
     Act::Come(0, "SUBMIT\nMOV 0,1\n.\nSUBMIT\nJMP 0\n.\n"),
-    Act::Serve(Step::Served(0)),
+    Act::Serve(&[Step::Served(0)]),
     Act::Steps(&[Step::Stepped(0)]),
     Act::Come(1, "SUBMIT\nDAT 0,0\n.\nSUBMIT\nJMP\n.\n"),
     Act::Come(2, "\n\n"),
@@ -40,18 +42,19 @@ const PUT_OFF_BESIDE: [Act; 15] = [
     Act::Come(0, "SUBMIT\nJMP\n.\n"),
     Act::Steps(&[Step::Stepped(1), Step::Served(0)]),
     Act::Send(0, "REFUSED 1 MissingOperand\n"),
-    Act::Serve(Step::Served(1)),
+    Act::Serve(&[Step::Served(1)]),
     Act::Steps(&[Step::Served(1), Step::Nobody]),
     Act::Send(1, "FELL 3 0\nREFUSED 1 MissingOperand\n"),
 ];
 
 #[test]
 fn put_off_beside(rt: HostRuntime) {
-    follow(&rt, &PUT_OFF_BESIDE);
+    follow(&rt, 3, &PUT_OFF_BESIDE);
 }
 
 /// A source that was put off isn't assembled again until no submission is under way, over two submissions of other peers.
-const PUT_OFF_BESIDE_TWO: [Act; 12] = [
+static PUT_OFF_BESIDE_TWO: [Act; 13] = [
+    Act::Connect(&[0, 1, 2]),
     Act::Come(2, "SUBMIT\nMOV 0,1\n.\n"),
     Act::Steps(&[Step::Stepped(2)]),
     Act::Come(1, "SUBMIT\nDAT 0,0\n.\n"),
@@ -59,7 +62,7 @@ const PUT_OFF_BESIDE_TWO: [Act; 12] = [
     Act::Come(0, "SUBMIT\nJMP 0\n.\n"),
     Act::Steps(&[Step::Served(2), Step::Stepped(0), Step::Stepped(0)]),
     Act::Steps(&[Step::Served(0), Step::Stepped(1)]),
-    Act::Serve(Step::Served(1)),
+    Act::Serve(&[Step::Served(1)]),
     Act::Steps(&[Step::Nobody]),
     Act::Send(0, "PLACED 2 2 2\n"),
     Act::Send(1, "FELL 3 0\n"),
@@ -68,16 +71,17 @@ const PUT_OFF_BESIDE_TWO: [Act; 12] = [
 
 #[test]
 fn put_off_beside_two(rt: HostRuntime) {
-    follow(&rt, &PUT_OFF_BESIDE_TWO);
+    follow(&rt, 3, &PUT_OFF_BESIDE_TWO);
 }
 
 /// A source whose assembly spends its steps while the submission of another peer is under way ends its session, and that submission goes on.
-const SPENT_BESIDE: [Act; 8] = [
+static SPENT_BESIDE: [Act; 9] = [
+    Act::Connect(&[0, 1, 2]),
     Act::Come(0, "SUBMIT\nMOV 0,1\n.\n"),
     Act::Steps(&[Step::Stepped(0)]),
     Act::Come(1, "SUBMIT\nMOV 0,1\n.\n"),
     Act::StepWithin(0, Step::Served(1)),
-    Act::Ended(1, PeerEnd::StepsSpent),
+    Act::Ended(1, Some(PeerEnd::StepsSpent)),
     Act::Steps(&[Step::Served(0), Step::Nobody]),
     Act::Send(0, "PLACED 1 1 0\n"),
     Act::Send(1, ""),
@@ -85,5 +89,5 @@ const SPENT_BESIDE: [Act; 8] = [
 
 #[test]
 fn spent_beside(rt: HostRuntime) {
-    follow(&rt, &SPENT_BESIDE);
+    follow(&rt, 3, &SPENT_BESIDE);
 }

@@ -22,7 +22,7 @@ pub(crate) const TABLE_ANSWERS: &str = "PLACED 1 1 0\n1 1 0 0 Imp by A. K. Dewdn
 pub(crate) const THREE: &str = "SUBMIT\nMOV 0,1\n.\nSUBMIT\nJMP 0\n.\nSUBMIT\nDAT 0,0\n.\nSHOW\n";
 
 /// Lines of a session, its answers, and whether it ends with `QUIT` or with its input.
-const ROWS: [(&str, &str, SessionEnd); 9] = rows! {
+static ROWS: [(&'static str, &'static str, SessionEnd); 9] = rows! {
     "SUBMIT\nMOV 0,1\n.\nBOGUS\nQUIT\n" => "PLACED 1 1 0\nBAD\n", SessionEnd::Quit;
     "SUBMIT\nMOV 0,1\n" => "", SessionEnd::EndOfInput;
     "SHOW\r\n" => ".\n", SessionEnd::EndOfInput;

@@ -31,8 +31,8 @@ fn begin_after(rt: &(impl Abort + AllocGlobal), arena: &mut Arena<Global>, setti
     requires settings { arena.old.settings ≡ settings.now }
     requires room { 21 ≤ settings.now.core }
 {
-    let one = warrior(rt.alloc(), &[dat!(1, 1)], settings).expect(rt, "it fits");
-    let two = warrior(rt.alloc(), &[dat!(2, 2)], settings).expect(rt, "it fits");
+    let one = fitting(rt, &[dat!(1, 1)], settings);
+    let two = fitting(rt, &[dat!(2, 2)], settings);
     arena.begin(&one, &two, 20, Side::First);
     drop(two);
     drop(one);
@@ -40,9 +40,9 @@ fn begin_after(rt: &(impl Abort + AllocGlobal), arena: &mut Arena<Global>, setti
 
 /// The first cell that is not as such a round begins, after two matches in the same arena.
 fn left_of_matches(rt: &(impl Abort + AllocGlobal), raw: RawSettings) -> Option<u16> {
-    let settings = Settings::new(raw).expect(rt, "they are settings");
+    let settings = settings_of(rt, raw);
     assert!(rt; settings.core() >= 21, "they have no room");
-    let mut arena = Arena::new(rt.alloc(), &settings).expect(rt, "there is memory");
+    let mut arena = new_arena(rt, &settings);
     fight_twice(rt, &mut arena, &[IMP], &[STAY], &settings);
     begin_after(rt, &mut arena, &settings);
     let left = left_over(&arena, settings.core(), [(0, dat!(1, 1)), (20, dat!(2, 2))]);
@@ -54,7 +54,7 @@ fn left_of_matches(rt: &(impl Abort + AllocGlobal), raw: RawSettings) -> Option<
 fn nothing_is_left_of_a_match(rt: HostRuntime) {
     for raw in [SMALL, LARGE] {
         let left = left_of_matches(&rt, raw);
-        expect_same(&rt, &left, &None, format_args!("core of {}", raw.core));
+        expect_of(&rt, &left, &None, "core of", &raw.core);
     }
 }
 
@@ -63,7 +63,7 @@ const ACROSS: [(u16, Instr); 4] = [(65534, IMP), (0, IMP), (1, IMP), (2, DIE)];
 /// An imp goes from the last cells of the largest core to the first, where the other side then executes it too.
 #[test]
 fn across_the_end_of_the_largest_core(rt: HostRuntime) {
-    let settings = Settings::new(LARGE).expect(&rt, "they are settings");
+    let settings = settings_of(&rt, LARGE);
     let codes: [&[Instr]; 2] = [&[STAY], &[IMP]];
     let mut arena = begun(&rt, &settings, codes, 65533, Side::Second);
     for _ in 0..5 {
@@ -89,7 +89,7 @@ const OVER_THE_END: [(u16, Instr); 5] = [
 /// then executes it too. So the one cycle is over.
 #[test]
 fn one_cycle_under_the_largest_settings(rt: HostRuntime) {
-    let settings = Settings::new(LARGEST).expect(&rt, "they are settings");
+    let settings = settings_of(&rt, LARGEST);
     let codes: [&[Instr]; 2] = [&[STAY], &[OVER; 100]];
     let mut arena = begun(&rt, &settings, codes, 65435, Side::Second);
     check_outcome(&rt, &mut arena, Outcome::Tie);

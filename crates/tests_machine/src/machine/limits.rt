@@ -19,7 +19,7 @@ const WITHIN: [Within; 5] = rows! {
 
 fn check_within(rt: &(impl Abort + AllocGlobal), within: &Within) {
     let (code, left, process) = within;
-    let settings = Settings::new(LIMITED).expect(rt, "they are settings");
+    let settings = settings_of(rt, LIMITED);
     let codes: [&[Instr]; 2] = [code, &[STAY]];
     let mut arena = begun(rt, &settings, codes, 32, Side::First);
     check_next(rt, &mut arena, Turned::Went);

@@ -5,15 +5,15 @@ use tests_fixtures::{SMALL, small};
 
 /// The cells at both ends of the core, and the one after its end.
 fn check_cleared(rt: &impl Abort, arena: &Arena<Global>) {
-    assert!(rt; is_cell(arena, 0, DIE));
-    assert!(rt; is_cell(arena, 63, DIE));
-    assert!(rt; arena.cell(64).is_none());
+    expect(rt, is_cell(arena, 0, DIE), "the first cell");
+    expect(rt, is_cell(arena, 63, DIE), "the last cell");
+    expect(rt, arena.cell(64).is_none(), "no cell after the last");
 }
 
 #[test]
 fn a_fresh_arena(rt: HostRuntime) {
-    let settings = Settings::new(SMALL).expect(&rt, "they are settings");
-    let mut arena = Arena::new(rt.alloc(), &settings).expect(&rt, "there is memory");
+    let settings = settings_of(&rt, SMALL);
+    let mut arena = new_arena(&rt, &settings);
     check_next(&rt, &mut arena, Turned::Over);
     check_outcome(&rt, &mut arena, Outcome::Tie);
     check_cleared(&rt, &arena);
@@ -40,12 +40,12 @@ fn check_round(rt: &(impl Abort + AllocGlobal), settings: &Settings, round: &Rou
     let mut arena = begun(rt, settings, [&[older], &[younger]], 10, first);
     let outcome = arena.play();
     drop(arena);
-    expect_same(rt, &outcome, &due, format_args!("{older:?} {younger:?}"));
+    expect_of(rt, &outcome, &due, "a round of", &[older, younger]);
 }
 
 #[test]
 fn who_wins(rt: HostRuntime) {
-    let settings = Settings::new(SMALL).expect(&rt, "they are settings");
+    let settings = settings_of(&rt, SMALL);
     for round in &WHO_WINS {
         check_round(&rt, &settings, round);
     }
@@ -54,7 +54,7 @@ fn who_wins(rt: HostRuntime) {
 /// The first side dies in its first turn, and no turn follows.
 #[test]
 fn a_round_that_ends_at_once(rt: HostRuntime) {
-    let settings = Settings::new(SMALL).expect(&rt, "they are settings");
+    let settings = settings_of(&rt, SMALL);
     let codes: [&[Instr]; 2] = [&[DIE], &[STAY]];
     let mut arena = begun(&rt, &settings, codes, 10, Side::First);
     check_process(&rt, &arena, Side::First, 0, Some(0));
@@ -71,7 +71,7 @@ const SPLIT: Instr = instruction!(Spl.B 0, 0);
 /// If a side may have one process, a SPL queues the next instruction alone.
 #[test]
 fn a_split_past_the_limit(rt: HostRuntime) {
-    let settings = Settings::new(small!(processes: 1)).expect(&rt, "they are settings");
+    let settings = settings_of(&rt, small!(processes: 1));
     let mut arena = begun(&rt, &settings, [&[SPLIT], &[SPLIT]], 10, Side::First);
     check_next(&rt, &mut arena, Turned::Went);
     check_count(&rt, &arena, Side::First, 1);

@@ -22,9 +22,9 @@ fn fault_at(k: u64) -> Option<MigrateFault> {
 
 /// Growth `k` was refused with this fault, or there is no such growth. None is refused from now on.
 fn expect_fault(rt: &impl Abort, memory: &Refusing<Global>, k: u64, fault: Option<MigrateFault>) {
-    let found = (fault, memory.refused() == 1);
-    let due = (fault_at(k), fault.is_some());
-    expect_same(rt, &found, &due, format_args!("at growth {k}"));
+    let found = (k, fault, memory.refused() == 1);
+    let due = (k, fault_at(k), fault.is_some());
+    expect_same(rt, &found, &due, "a growth");
     memory.refuse(0, 0);
 }
 

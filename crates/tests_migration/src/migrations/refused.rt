@@ -53,12 +53,8 @@ fn expect_occupied(rt: &(impl Abort + AllocGlobal), n: u32) {
     expect_new_refused(rt, with_old_header(rt, n), Refusal::Occupied);
     let settings = settings_from(SMALL).expect(rt, "they are settings");
     let refusal = refusal_to_create(rt.alloc(), with_old_header(rt, n), settings);
-    expect_same(
-        rt,
-        &refusal,
-        &Some(Refusal::Occupied),
-        format_args!("sector {n}"),
-    );
+    let due = Some(Refusal::Occupied);
+    expect_same(rt, &(n, refusal), &(n, due), "a sector and a refusal");
 }
 
 /// Of a hill in the old format, one header in its sector is enough.

@@ -23,17 +23,6 @@ fn stopped_behind(
     (old, new.into_inner())
 }
 
-/// Whether a device holds the hill. It holds no other.
-fn holds_the_hill(rt: &(impl Abort + AllocGlobal), device: MemoryDevice<Global>) -> bool {
-    match hill_on(rt, device) {
-        Some(store) => {
-            expect_in(rt, store);
-            true
-        }
-        None => false,
-    }
-}
-
 /// An image of the device holds the hill, or none.
 fn expect_image(
     rt: &(impl Abort + AllocGlobal),
@@ -41,7 +30,13 @@ fn expect_image(
     choice: &[u32; 86],
     holds: bool,
 ) {
-    let found = holds_the_hill(rt, image_of(rt, device, choice));
+    let found = match hill_on(rt, image_of(rt, device, choice)) {
+        Some(store) => {
+            expect_in(rt, store);
+            true
+        }
+        None => false,
+    };
     expect_same(rt, &found, &holds, "the hill");
 }
 

@@ -23,7 +23,7 @@ const NOBODY: &str = page!("0 here\n");
 const ONE: &str = page!("1 here\n");
 
 /// What is done in `the_hill_that_stands`.
-const THE_HILL_THAT_STANDS: [Cue; 13] = [
+static THE_HILL_THAT_STANDS: [Cue; 13] = [
     (0, Deed::Visits(7)),
     (0, Deed::Takes(7, ALL)),
     (0, Deed::Says(7, "GET / HT")),
@@ -39,7 +39,7 @@ const THE_HILL_THAT_STANDS: [Cue; 13] = [
     (6, Deed::Ends(1)),
 ];
 
-const THE_HILL_THAT_STANDS_DUE: [Due; 7] = [
+static THE_HILL_THAT_STANDS_DUE: [Due; 7] = [
     Due::Heard(7, NOBODY),
     Due::Heard(8, ONE),
     Due::Heard(1, "PLACED 1 1 0\n"),
@@ -73,14 +73,14 @@ macro_rules! asking {
 // A request, what is done if a browser asks so, and what it hears first.
 macro_rules! refused {
     ($request:literal, $start:literal) => {
-        ($request, asking!($request), $start)
+        ($request, &asking!($request), $start)
     };
 }
 
 /// A request, what is done if a browser asks so, and what it hears first.
-type Row = (&'static str, [Cue; 6], &'static str);
+type Row = (&'static str, &'static [Cue], &'static str);
 
-const REFUSED: [Row; 13] = [
+static REFUSED: [Row; 13] = [
     refused!(
         "GET /x HTTP/1.1\r\nHost: [::1]\r\n\r\n",
         "HTTP/1.1 404 Not Found\r\n"
@@ -152,9 +152,9 @@ fn refusals(rt: HostRuntime) {
 }
 
 /// What is done in `a_head`.
-const A_HEAD: [Cue; 6] = asking!("HEAD / HTTP/1.1\r\nHost: localhost\r\n\r\n");
+static A_HEAD: [Cue; 6] = asking!("HEAD / HTTP/1.1\r\nHost: localhost\r\n\r\n");
 
-const A_HEAD_DUE: [Due; 2] = [
+static A_HEAD_DUE: [Due; 2] = [
     Due::Heard(7, page!("")),
     Due::Told("7 ", &["HEAD / HTTP/1.1: 200 258"]),
 ];
@@ -166,9 +166,9 @@ fn a_head(rt: HostRuntime) {
 }
 
 /// What is done in `a_blank_line_first`.
-const A_BLANK_LINE_FIRST: [Cue; 6] = asking!("\r\n\nGET /x?y HTTP/1.1\r\nHost: [::1]\r\n\r\n");
+static A_BLANK_LINE_FIRST: [Cue; 6] = asking!("\r\n\nGET /x?y HTTP/1.1\r\nHost: [::1]\r\n\r\n");
 
-const A_BLANK_LINE_FIRST_DUE: [Due; 1] = [Due::Told("7 ", &["GET /x?y HTTP/1.1: 404 367"])];
+static A_BLANK_LINE_FIRST_DUE: [Due; 1] = [Due::Told("7 ", &["GET /x?y HTTP/1.1: 404 367"])];
 
 /// Of a request whose first lines are blank the one after them is told. The answer has a head of 267 bytes, and a body of 100.
 #[test]
@@ -177,7 +177,7 @@ fn a_blank_line_first(rt: HostRuntime) {
 }
 
 /// What is done in `slow_browsers`.
-const SLOW_BROWSERS: [Cue; 14] = [
+static SLOW_BROWSERS: [Cue; 14] = [
     (0, Deed::Visits(7)),
     (0, Deed::Says(7, "GET / HT")),
     (0, Deed::Visits(8)),
@@ -194,7 +194,7 @@ const SLOW_BROWSERS: [Cue; 14] = [
     (70_000, Deed::Ends(2)),
 ];
 
-const SLOW_BROWSERS_DUE: [Due; 9] = [
+static SLOW_BROWSERS_DUE: [Due; 9] = [
     Due::Closed(7, Some(10_000)),
     Due::Heard(9, NOBODY),
     Due::Closed(9, Some(11_000)),
@@ -214,7 +214,7 @@ fn slow_browsers(rt: HostRuntime) {
 }
 
 /// What is done in `an_accept_that_fails`.
-const AN_ACCEPT_THAT_FAILS: [Cue; 7] = [
+static AN_ACCEPT_THAT_FAILS: [Cue; 7] = [
     (0, Deed::FailsBrowser),
     (0, Deed::Visits(7)),
     (0, Deed::Takes(7, ALL)),
@@ -224,7 +224,7 @@ const AN_ACCEPT_THAT_FAILS: [Cue; 7] = [
     (9_000, Deed::Ends(1)),
 ];
 
-const AN_ACCEPT_THAT_FAILS_DUE: [Due; 2] = [Due::Heard(7, NOBODY), Due::Closed(7, Some(100))];
+static AN_ACCEPT_THAT_FAILS_DUE: [Due; 2] = [Due::Heard(7, NOBODY), Due::Closed(7, Some(100))];
 
 /// An accept of a browser that fails is tried again after 100 milliseconds, though nothing else happens until then.
 #[test]
@@ -233,7 +233,7 @@ fn an_accept_that_fails(rt: HostRuntime) {
 }
 
 /// What is done in `a_browser_that_is_gone`.
-const A_BROWSER_THAT_IS_GONE: [Cue; 6] = [
+static A_BROWSER_THAT_IS_GONE: [Cue; 6] = [
     (0, Deed::Visits(7)),
     (0, Deed::Says(7, HILL)),
     (1, Deed::Resets(7)),
@@ -242,7 +242,7 @@ const A_BROWSER_THAT_IS_GONE: [Cue; 6] = [
     (9, Deed::Ends(1)),
 ];
 
-const A_BROWSER_THAT_IS_GONE_DUE: [Due; 2] = [Due::Heard(7, ""), Due::Closed(7, Some(1))];
+static A_BROWSER_THAT_IS_GONE_DUE: [Due; 2] = [Due::Heard(7, ""), Due::Closed(7, Some(1))];
 
 /// A browser that is gone costs nothing.
 #[test]

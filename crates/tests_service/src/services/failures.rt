@@ -7,7 +7,7 @@ use koth_service::ServiceFault;
 use std::process::Abort;
 
 /// What is done in `a_device_that_fails`.
-const A_DEVICE_THAT_FAILS: [Cue; 8] = [
+static A_DEVICE_THAT_FAILS: [Cue; 8] = [
     (0, Deed::Calls(1)),
     (0, Deed::Takes(1, ALL)),
     (0, Deed::Calls(2)),
@@ -18,14 +18,14 @@ const A_DEVICE_THAT_FAILS: [Cue; 8] = [
     (2, Deed::Ends(2)),
 ];
 
-const A_DEVICE_THAT_FAILS_DUE: [Due; 3] = [
+static A_DEVICE_THAT_FAILS_DUE: [Due; 3] = [
     Due::Heard(1, "BAD\n"),
     Due::Heard(2, "PLACED 1 1 0\n"),
     Due::Told("1 ", &["connected", "By(StoreFailed)"]),
 ];
 
 /// What comes of it if the hill can't be opened again.
-const A_HILL_THAT_IS_GONE_DUE: [Due; 1] = [Due::Heard(2, "")];
+static A_HILL_THAT_IS_GONE_DUE: [Due; 1] = [Due::Heard(2, "")];
 
 /// The device fails in the first submission, which isn't answered. The other peer is served on the hill as it was before, opened again; or
 /// on none, if it can't be.
@@ -39,7 +39,7 @@ fn a_device_that_fails(rt: HostRuntime) {
 }
 
 /// What is done in `a_hundred_before`.
-const A_HUNDRED_BEFORE: [Cue; 16] = [
+static A_HUNDRED_BEFORE: [Cue; 16] = [
     (0, Deed::Calls(1)),
     (0, Deed::Takes(1, ALL)),
     (0, Deed::Repeats(1, "SUBMIT\nDAT 0,0\n.\n", 100)),
@@ -60,7 +60,7 @@ const A_HUNDRED_BEFORE: [Cue; 16] = [
 
 /// Calls of the device that pass, the table then, and what the last peer is answered. The first call that fails is the write of the header,
 /// which isn't made, or the sync after it.
-const CUT_OFF: [(u64, &str, &str); 2] = [
+static CUT_OFF: [(u64, &'static str, &'static str); 2] = [
     (
         220,
         "1 1 3 1 Unnamed by Anonymous\n2 2 3 0 Unnamed by Anonymous\n.\n",
@@ -77,15 +77,15 @@ const CUT_OFF: [(u64, &str, &str); 2] = [
 /// cut off and with it. Of the 220 calls, 5 make the hill, 14 place two warriors, 196 count 98 that fall, and 5 write a slot and sync.
 #[test]
 fn a_hundred_before(rt: HostRuntime) {
-    for (calls, table, answer) in CUT_OFF {
+    for (calls, table, answer) in &CUT_OFF {
         let dues = [
             Due::Line(100, "1 FELL 100 6"),
             Due::Heard(2, ""),
             Due::Told("2 ", &["connected", "By(StoreFailed)"]),
-            Due::Heard(3, table),
-            Due::Heard(4, answer),
+            Due::Heard(3, *table),
+            Due::Heard(4, *answer),
         ];
-        act_on_a_fault(&rt, &A_HUNDRED_BEFORE, 4, calls, 1, None, &dues);
+        act_on_a_fault(&rt, &A_HUNDRED_BEFORE, 4, *calls, 1, None, &dues);
     }
 }
 

@@ -3,7 +3,7 @@
 ghost use Rattle.std.specs.Prelude.{◌≡◌, [], ◌∷◌, codes, false, IfOk, IfSome};
 ghost use Rattle.koth_http.specs.declared.target.Page.TheVariants as pages;
 
-use hill_store::Store;
+use hill_store::{Reply, Store};
 use koth_http::Page;
 use koth_service::{Event, Host, LogWrite};
 use sector_disk::{FuseDevice, FuseKind, MemoryDevice};
@@ -103,22 +103,37 @@ fn line_of(
 ) -> Result<String<Global>, AllocError> {
     let port = peer.port();
     match event {
-        Event::Connected => format!(in alloc; "{} connected\n", port),
-        Event::Answered(reply) => {
-            let line = koth_session::line_of(&reply);
-            let line = str::from_utf8(line.as_slice()).unwrap_or("\n");
-            format!(in alloc; "{} {}", port, line)
-        }
-        Event::Refused => format!(in alloc; "{} refused\n", port),
+        Event::Connected => told(alloc, port, "connected\n"),
+        Event::Answered(reply) => answered(alloc, port, reply),
+        Event::Refused => told(alloc, port, "refused\n"),
         Event::Ended(how) => format!(in alloc; "{} {:?}\n", port, how),
         Event::Asked {
             line,
             status,
             bytes,
-        } => {
-            let line = str::from_utf8(line).unwrap_or("");
-            let status = str::from_utf8(status).unwrap_or("");
-            format!(in alloc; "{} {}: {} {}\n", port, line, status, bytes)
-        }
+        } => asked(alloc, port, line, status, bytes),
     }
+}
+
+/// A line of this text about the peer at a port.
+fn told(alloc: Global, port: u16, text: &str) -> Result<String<Global>, AllocError> {
+    format!(in alloc; "{} {}", port, text)
+}
+
+fn answered(alloc: Global, port: u16, reply: Reply) -> Result<String<Global>, AllocError> {
+    let line = koth_session::line_of(&reply);
+    let line = str::from_utf8(line.as_slice()).unwrap_or("\n");
+    told(alloc, port, line)
+}
+
+fn asked(
+    alloc: Global,
+    port: u16,
+    line: &[u8],
+    status: &[u8],
+    bytes: usize,
+) -> Result<String<Global>, AllocError> {
+    let line = str::from_utf8(line).unwrap_or("");
+    let status = str::from_utf8(status).unwrap_or("");
+    format!(in alloc; "{} {}: {} {}\n", port, line, status, bytes)
 }

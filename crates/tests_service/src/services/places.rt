@@ -15,7 +15,7 @@ fn within(peers: usize, peers_per_address: Option<u32>, connections: u32) -> Lim
 }
 
 /// What is done in `bytes_without_a_line`.
-const BYTES_WITHOUT_A_LINE: [Cue; 11] = [
+static BYTES_WITHOUT_A_LINE: [Cue; 11] = [
     (0, Deed::Calls(1)),
     (0, Deed::Takes(1, ALL)),
     (0, Deed::Says(1, "SH")),
@@ -29,7 +29,7 @@ const BYTES_WITHOUT_A_LINE: [Cue; 11] = [
     (210_001, Deed::Ends(2)),
 ];
 
-const BYTES_WITHOUT_A_LINE_DUE: [Due; 5] = [
+static BYTES_WITHOUT_A_LINE_DUE: [Due; 5] = [
     Due::Heard(1, ".\n"),
     Due::Closed(1, Some(210_000)),
     Due::Told("1 ", &["connected", "Displaced"]),
@@ -46,7 +46,7 @@ fn bytes_without_a_line(rt: HostRuntime) {
 }
 
 /// What is done in `a_first_byte`.
-const A_FIRST_BYTE: [Cue; 9] = [
+static A_FIRST_BYTE: [Cue; 9] = [
     (0, Deed::Calls(1)),
     (1_000, Deed::Calls(2)),
     (1_999, Deed::Takes(2, ALL)),
@@ -58,7 +58,7 @@ const A_FIRST_BYTE: [Cue; 9] = [
     (11_001, Deed::Ends(4)),
 ];
 
-const A_FIRST_BYTE_DUE: [Due; 7] = [
+static A_FIRST_BYTE_DUE: [Due; 7] = [
     Due::Closed(1, Some(2_000)),
     Due::Told("1 ", &["connected", "Displaced"]),
     Due::Heard(2, "BAD\n"),
@@ -75,7 +75,7 @@ fn a_first_byte(rt: HostRuntime) {
 }
 
 /// What is done in `the_longest_unused`.
-const THE_LONGEST_UNUSED: [Cue; 13] = [
+static THE_LONGEST_UNUSED: [Cue; 13] = [
     (0, Deed::Calls(1)),
     (0, Deed::Takes(1, ALL)),
     (0, Deed::Calls(2)),
@@ -91,7 +91,7 @@ const THE_LONGEST_UNUSED: [Cue; 13] = [
     (63_000, Deed::Ends(4)),
 ];
 
-const THE_LONGEST_UNUSED_DUE: [Due; 6] = [
+static THE_LONGEST_UNUSED_DUE: [Due; 6] = [
     Due::Closed(2, Some(61_000)),
     Due::Told("2 ", &["connected", "Displaced"]),
     Due::Heard(1, "BAD\n"),
@@ -107,7 +107,7 @@ fn the_longest_unused(rt: HostRuntime) {
 }
 
 /// What is done in `a_turn_that_is_awaited`.
-const A_TURN_THAT_IS_AWAITED: [Cue; 13] = [
+static A_TURN_THAT_IS_AWAITED: [Cue; 13] = [
     (0, Deed::Calls(1)),
     (0, Deed::Takes(1, ALL)),
     (0, Deed::Calls(2)),
@@ -123,7 +123,7 @@ const A_TURN_THAT_IS_AWAITED: [Cue; 13] = [
     (80_001, Deed::Ends(3)),
 ];
 
-const A_TURN_THAT_IS_AWAITED_DUE: [Due; 5] = [
+static A_TURN_THAT_IS_AWAITED_DUE: [Due; 5] = [
     Due::Told("1 ", &["connected", "PLACED 1 1 0", "By(EndOfInput)"]),
     Due::Heard(2, ".\n"),
     Due::Closed(2, Some(80_000)),
@@ -139,7 +139,7 @@ fn a_turn_that_is_awaited(rt: HostRuntime) {
 }
 
 /// What is done in `peers_of_one_host`.
-const PEERS_OF_ONE_HOST: [Cue; 12] = [
+static PEERS_OF_ONE_HOST: [Cue; 12] = [
     (0, Deed::Calls(1)),
     (1, Deed::Calls(2)),
     (1, Deed::Calls(3)),
@@ -154,7 +154,7 @@ const PEERS_OF_ONE_HOST: [Cue; 12] = [
     (3_003, Deed::Ends(7)),
 ];
 
-const PEERS_OF_ONE_HOST_DUE: [Due; 8] = [
+static PEERS_OF_ONE_HOST_DUE: [Due; 8] = [
     Due::Closed(3, Some(1)),
     Due::Told("3 ", &["refused"]),
     Due::Heard(4, "BAD\n"),
@@ -174,7 +174,7 @@ fn peers_of_one_host(rt: HostRuntime) {
 }
 
 /// What is done in `answers_that_are_owed`.
-const ANSWERS_THAT_ARE_OWED: [Cue; 9] = [
+static ANSWERS_THAT_ARE_OWED: [Cue; 9] = [
     (0, Deed::Calls(1)),
     (0, Deed::Says(1, "BOGUS\nQUIT\n")),
     (0, Deed::Ends(1)),
@@ -186,7 +186,7 @@ const ANSWERS_THAT_ARE_OWED: [Cue; 9] = [
     (59_999, Deed::Takes(2, ALL)),
 ];
 
-const ANSWERS_THAT_ARE_OWED_DUE: [Due; 6] = [
+static ANSWERS_THAT_ARE_OWED_DUE: [Due; 6] = [
     Due::Heard(1, "BAD\n"),
     Due::Closed(1, Some(30_000)),
     Due::Told("1 ", &["connected", "By(Quit)"]),
@@ -202,7 +202,7 @@ fn answers_that_are_owed(rt: HostRuntime) {
 }
 
 /// What is done in `bytes_during_a_submission`.
-const BYTES_DURING_A_SUBMISSION: [Cue; 11] = [
+static BYTES_DURING_A_SUBMISSION: [Cue; 11] = [
     (0, Deed::Calls(2)),
     (0, Deed::Takes(2, ALL)),
     (0, Deed::Calls(1)),
@@ -216,7 +216,7 @@ const BYTES_DURING_A_SUBMISSION: [Cue; 11] = [
     (4_001, Deed::Ends(3)),
 ];
 
-const BYTES_DURING_A_SUBMISSION_DUE: [Due; 3] = [
+static BYTES_DURING_A_SUBMISSION_DUE: [Due; 3] = [
     Due::Heard(2, "BAD\n"),
     Due::Closed(2, Some(4_000)),
     Due::Told("2 ", &["connected", "By(EndOfInput)"]),

@@ -1,6 +1,6 @@
 //! Services over sockets of no system, and what has to come of them.
 
-use crate::compare::{expect, expect_bytes, expect_same};
+use crate::compare::{expect, expect_same};
 use crate::services::callers::Cue;
 use crate::services::fakes::Fakes;
 use crate::services::hosts::{Clerk, Shut, hill};
@@ -79,12 +79,12 @@ pub(crate) enum Due {
 
 fn check_heard(rt: &impl Abort, sockets: &Fakes<'_>, port: u16, answers: &str) {
     let caller = sockets.caller(port).expect(rt, "it called");
-    expect_bytes(rt, caller.heard.as_slice(), answers.as_bytes());
+    expect_same(rt, &caller.heard.as_slice(), &answers.as_bytes());
 }
 
 fn check_closed(rt: &impl Abort, sockets: &Fakes<'_>, port: u16, time: Option<u64>) {
     let caller = sockets.caller(port).expect(rt, "it called");
-    assert_eq!(rt; caller.closed, time, "{port}");
+    expect_same(rt, &(port, caller.closed), &(port, time));
 }
 
 fn check_told(rt: &impl Abort, text: &str, peer: &str, events: &[&str]) {
@@ -92,7 +92,7 @@ fn check_told(rt: &impl Abort, text: &str, peer: &str, events: &[&str]) {
     for line in text.lines() {
         if let Some(event) = line.strip_prefix(peer) {
             let due = rest.next().expect(rt, "no more is due");
-            expect_same(rt, event, due);
+            expect_same(rt, &event, due);
         }
     }
     expect(rt, rest.next().is_none(), peer);
@@ -101,16 +101,7 @@ fn check_told(rt: &impl Abort, text: &str, peer: &str, events: &[&str]) {
 /// This is the line at this place of what was told.
 fn check_line(rt: &impl Abort, text: &str, place: usize, line: &str) {
     let found = text.lines().nth(place).expect(rt, "it is told");
-    expect_same(rt, found, line);
-}
-
-/// A service was ended so before its time, or by nothing.
-pub(crate) fn check_fault(
-    rt: &impl Abort,
-    found: Option<ServiceFault<Shut>>,
-    due: Option<ServiceFault<Shut>>,
-) {
-    assert_eq!(rt; found, due);
+    expect_same(rt, &found, &line);
 }
 
 /// This came of a service.
@@ -131,7 +122,7 @@ pub(crate) fn check_served(
     fault: Option<ServiceFault<Shut>>,
     dues: &[Due],
 ) {
-    check_fault(rt, served.fault, fault);
+    expect_same(rt, &served.fault, &fault);
     for due in dues {
         check_due(rt, served, *due);
     }

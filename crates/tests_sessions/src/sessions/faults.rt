@@ -4,7 +4,7 @@ use crate::calls::{
     answers_to, blank_in, empty_hill, empty_hill_on, end_of, expect_count, expect_session,
     expect_text, reopened,
 };
-use crate::compare::{expect, expect_end, expect_length};
+use crate::compare::{expect, expect_same};
 use crate::sessions::{TABLE, TABLE_ANSWERS};
 use hill_store::Store;
 use koth_session::{Counted, SessionEnd};
@@ -98,14 +98,16 @@ fn end_when_full<D: Device>(
     drop(input);
     let faults = output.faults();
     let taken = output.into_inner().taken;
-    expect_length(rt, taken.len(), room);
-    expect(
-        rt,
-        answers.as_bytes().starts_with(taken.as_slice()),
-        answers,
-    );
+    expect_taken(rt, &taken, answers, room);
     drop(taken);
     (ended, faults)
+}
+
+/// These are the first `room` bytes of the answers.
+fn expect_taken(rt: &impl Abort, taken: &Vec<u8>, answers: &str, room: usize) {
+    expect_same(rt, &taken.len(), &room, "bytes that are taken");
+    let is_start = answers.as_bytes().starts_with(taken.as_slice());
+    expect(rt, is_start, answers);
 }
 
 /// A session ended as is due, and its output has the faults that are due.
@@ -117,7 +119,8 @@ fn expect_found(
     room: usize,
     full: Full,
 ) {
-    assert!(rt; found == due, "{most} at a time, {room} in all, {full:?}");
+    let output = (most, room, full);
+    expect_same(rt, &(output, found), &(output, due), "at a time, in all");
 }
 
 /// One warrior is on the hill of a store, and on the one that is opened on its device.
@@ -162,7 +165,7 @@ fn expect_on_failed<D: Device>(
     let (ended, answered) = answers_to(rt, rt.alloc(), lines.as_bytes(), store);
     expect_text(rt, &answered, answers);
     drop(answered);
-    expect_end(rt, ended, end, lines);
+    expect_same(rt, &ended, &end, lines);
 }
 
 /// A session whose device fails once, after `calls` calls: nothing is answered, and the table stays empty. How many warriors are on
@@ -180,9 +183,9 @@ fn count_behind_a_fault(rt: &(impl Abort + AllocGlobal), calls: u64, kind: FuseK
 /// The device fails in a session on this store, which stays so: a table is answered on it, and no submission.
 fn expect_failed<D: Device>(rt: &(impl Abort + AllocGlobal), store: &mut Store<D, Global>) {
     let (ended, answered) = answers_to(rt, rt.alloc(), LINES, store);
-    expect_length(rt, answered.len(), 0);
+    expect_same(rt, &answered.len(), &0, "bytes of answers");
     drop(answered);
-    expect_end(rt, ended, SessionEnd::StoreFailed, "the submission");
+    expect_same(rt, &ended, &SessionEnd::StoreFailed, "the submission");
     expect_count(rt, store, 0);
     for (lines, answers, end) in &ON_A_FAILED_STORE {
         expect_on_failed(rt, store, lines, answers, *end);
@@ -195,15 +198,25 @@ fn a_device_that_fails(rt: HostRuntime) {
     for calls in 5..12 {
         let lost = count_behind_a_fault(&rt, calls, FuseKind::FailLost);
         let count = usize::from(calls == 11);
-        assert!(rt; lost == count, "the call behind {calls} is not made");
+        expect_same(
+            &rt,
+            &(calls, lost),
+            &(calls, count),
+            "the call behind these is not made",
+        );
         let kept = count_behind_a_fault(&rt, calls, FuseKind::FailKept);
         let count = usize::from(calls >= 10);
-        assert!(rt; kept == count, "the call behind {calls} is made");
+        expect_same(
+            &rt,
+            &(calls, kept),
+            &(calls, count),
+            "the call behind these is made",
+        );
     }
 }
 
 /// Lines of a session on a store whose device failed before, its answers and its end.
-const ON_A_FAILED_STORE: [(&str, &str, SessionEnd); 3] = [
+static ON_A_FAILED_STORE: [(&'static str, &'static str, SessionEnd); 3] = [
     ("SHOW\nQUIT\n", ".\n", SessionEnd::Quit),
     ("SUBMIT\n.\nSHOW\n", "", SessionEnd::StoreFailed),
     ("SHOW\nSUBMIT\nMOV 0,1\n.\n", ".\n", SessionEnd::StoreFailed),

@@ -2,6 +2,7 @@
 //! there is memory.
 
 use crate::calls::{answers_to, blank_in, empty_hill_on, expect_text, reopened};
+use crate::compare::expect_same;
 use crate::sessions::THREE;
 use crate::sessions::faults::LINES;
 use hill_store::Store;
@@ -42,7 +43,7 @@ type Refused = (u64, &'static str, SessionEnd, &'static str);
 /// Numbers of its growths, in their order, and how it ends if one of them is refused. First come the four buffers, without which nothing is
 /// read, and then those of the assembler. If the device has its memory there too, the first writes to the four sectors of a slot and to a
 /// header's follow.
-const WITHOUT_ONE: [Refused; 3] = [
+static WITHOUT_ONE: [Refused; 3] = [
     (4, "", SessionEnd::Memory, NONE),
     (10, "MEMORY\nBAD\n", SessionEnd::Quit, NONE),
     (5, "", SessionEnd::StoreFailed, NONE),
@@ -57,7 +58,7 @@ const OF_THREE: Ending = Ending {
 
 /// The same of its growths. The second header is written to a sector that was written before, as is the third. The table is a list
 /// of rows and a text of 60 bytes, which grows from 8 to 64.
-const WITHOUT_THREE: [Refused; 7] = rows! {
+static WITHOUT_THREE: [Refused; 7] = rows! {
     4 => "", SessionEnd::Memory, NONE;
     10
         => "MEMORY\nPLACED 1 1 0\nPLACED 2 2 0\n1 1 6 1 Unnamed by Anonymous\n2 2 0 0 Unnamed by Anonymous\n.\n",
@@ -140,7 +141,7 @@ fn end_without<'m, D: Device>(
 
 /// This number of growths was refused, and the session ended so.
 fn expect_refused(rt: &impl Abort, k: u64, found: (u64, SessionEnd), due: (u64, SessionEnd)) {
-    assert_eq!(rt; found, due, "at growth {k}");
+    expect_same(rt, &(k, found), &(k, due), "a growth");
 }
 
 /// Growth `k` of a session on these lines is refused, and then they are given to a session with memory.

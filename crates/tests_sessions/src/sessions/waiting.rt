@@ -1,7 +1,7 @@
 //! Peers that wait for an answer, and streams that signals interrupt.
 
 use crate::calls::end_on;
-use crate::compare::{expect_end, expect_length, expect_number};
+use crate::compare::expect_same;
 use koth_session::{Counted, SessionEnd};
 use std::cell::Cell;
 use std::io;
@@ -78,9 +78,9 @@ fn expect_each_answer(rt: &(impl Abort + AllocGlobal)) {
     let faults = input.faults();
     drop(output);
     drop(input);
-    expect_end(rt, ended, SessionEnd::Quit, "five commands");
-    expect_length(rt, answered.get(), 4);
-    expect_number(rt, faults, 0, "faults of the input");
+    let found = (ended, answered.get(), faults);
+    let due = (SessionEnd::Quit, 4, 0);
+    expect_same(rt, &found, &due, "an end, lines, and faults of the input");
 }
 
 #[test]
@@ -92,12 +92,17 @@ fn expect_interrupted(rt: &(impl Abort + AllocGlobal)) {
     let mut input = Counted::new(one_by_one(b"SUBMIT\nMOV 0,1\n.\nBOGUS\nQUIT\n"));
     let mut output = Counted::new(one_by_one(b""));
     let ended = end_on(rt, &mut input, &mut output);
-    expect_end(rt, ended, SessionEnd::Quit, "signals");
-    expect_number(rt, input.faults(), 0, "faults of the input");
-    expect_number(rt, output.faults(), 0, "faults of the output");
+    let found = (ended, input.faults(), output.faults());
+    let due = (SessionEnd::Quit, 0, 0);
+    expect_same(
+        rt,
+        &found,
+        &due,
+        "an end, and faults of the input and the output",
+    );
     drop(input);
     let output = output.into_inner();
     let written = output.written;
     drop(output);
-    expect_length(rt, written, "PLACED 1 1 0\nBAD\n".len());
+    expect_same(rt, &written, &"PLACED 1 1 0\nBAD\n".len(), "bytes");
 }
