@@ -8,7 +8,7 @@ use crate::telling::{Apart, tell_text};
 use koth_words::DEFAULTS;
 use std::alloc::{AllocError, Allocator};
 use std::io::Write;
-use war_types::{RawSettings, SettingsFault};
+use war_types::{RawSettings, SettingsFault, range_of};
 
 /// Reports which setting is refused, its value and its range. If that can't be written, only the status shows it.
 pub fn refuse_settings<A: Allocator, E: Write>(
@@ -72,6 +72,16 @@ pub(crate) fn settings_word(fault: SettingsFault) -> &'static str
     }
 }
 
+/// The range of a setting as a text, and what is said behind it.
+macro_rules! range {
+    ($setting:ident $(, $more:literal)?) => {
+        range_of!($setting, range $(, $more)?)
+    };
+    ($least:literal, $most:literal $(, $more:literal)?) => {
+        concat!($least, " to ", $most $(, $more)?)
+    };
+}
+
 /// The value of the setting that is refused, and its range.
 pub(crate) fn range_text<A: Allocator>(
     alloc: A,
@@ -79,22 +89,22 @@ pub(crate) fn range_text<A: Allocator>(
     fault: SettingsFault,
 ) -> Result<String<A>, AllocError> {
     match fault {
-        SettingsFault::Core => between(alloc, "core", given.core, "64 to 65535"),
-        SettingsFault::Cycles => between(alloc, "cycles", given.cycles, "1 to 1000000"),
-        SettingsFault::Processes => between(alloc, "processes", given.processes, "1 to 65535"),
-        SettingsFault::Length => between(alloc, "length", given.length, "1 to 200"),
+        SettingsFault::Core => between(alloc, "core", given.core, range!(core)),
+        SettingsFault::Cycles => between(alloc, "cycles", given.cycles, range!(cycles)),
+        SettingsFault::Processes => between(alloc, "processes", given.processes, range!(processes)),
+        SettingsFault::Length => between(alloc, "length", given.length, range!(length)),
         SettingsFault::Distance => distance_text(alloc, given),
         SettingsFault::Rounds if given.rounds == 0 => {
             between(
                 alloc,
                 "rounds",
                 0,
-                "1 to 1000; koth asm and koth check play none",
+                range!(rounds, "; koth asm and koth check play none"),
             )
         }
-        SettingsFault::Rounds => between(alloc, "rounds", given.rounds, "1 to 1000"),
-        SettingsFault::Seed => between(alloc, "seed", given.seed, "1 to 2147483646"),
-        SettingsFault::Capacity => between(alloc, "capacity", given.capacity, "1 to 20"),
+        SettingsFault::Rounds => between(alloc, "rounds", given.rounds, range!(rounds)),
+        SettingsFault::Seed => between(alloc, "seed", given.seed, range!(seed)),
+        SettingsFault::Capacity => between(alloc, "capacity", given.capacity, range!(capacity)),
         SettingsFault::ReadLimit => limit_text(alloc, "read-limit", given.read_limit, given),
         SettingsFault::WriteLimit => limit_text(alloc, "write-limit", given.write_limit, given),
     }

@@ -8,9 +8,15 @@ use koth_commands::trouble::Trouble;
 use koth_words::DEFAULTS;
 use std::io;
 use std::random::RandomSource;
+use war_types::range_of;
+
+/// The greatest number of a setting.
+macro_rules! greatest {
+    ($least:literal, $most:literal) => { $most };
+}
 
 /// How many seeds there are: they are 1 to this number.
-const SEEDS: u64 = 2_147_483_646;
+const SEEDS: u64 = range_of!(seed, greatest);
 
 /// Draws a seed, 1 to 2,147,483,646, from eight bytes of the source of random numbers. No seed comes up more often than
 /// another by more than one part in 8,589,934,600. If the source fails, its error is the answer.

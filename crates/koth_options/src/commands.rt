@@ -8,9 +8,15 @@ use crate::arguments::Argument::{
     File, Flag, Number, Page, Port, Ranged, SourceOrInput, Sources, Text, Texts,
 };
 use crate::building::{Row, Takes, described, with_rows};
-use crate::options::{FORMAT, HILL_FILE, KEPT_FILE, NAME, PLAIN, TABLE, WARRIOR};
+use crate::options::{FORMAT, HILL_FILE, KEPT_FILE, NAME, PLAIN, TABLE, WARRIOR, help};
 use clap::Command;
 use std::alloc::{AllocError, Global};
+use war_types::range_of;
+
+/// An option with a number that is in the range of a setting.
+macro_rules! ranged {
+    ($least:literal, $most:literal, $name:literal, $help:expr) => { Ranged($name, $least, $most, $help) };
+}
 
 /// The commands up to `fight`, in the order of the help.
 const TO_FIGHT: [Row; 3] = [
@@ -206,11 +212,11 @@ const TO_RESEED: [Row; 7] = [
             File("OTHER", "File of the younger warrior; - is standard input"),
             NAME,
             Page("File for the page; needed if standard output is a terminal"),
-            Ranged(
+            range_of!(
+                rounds,
+                ranged,
                 "round",
-                1,
-                1000,
-                "Round that is shown, 1 to 1000 [default: 1]",
+                help!("Round that is shown, "; rounds; " [default: 1]")
             ),
             Flag("lost", "Show the first round that MINE lost"),
             Flag("won", "Show the first round that MINE won"),
@@ -245,7 +251,7 @@ const TO_RESEED: [Row; 7] = [
             File("NEW", "New hill file; nothing may have that name"),
             Number(
                 "seed",
-                "Seed of the new hill, 1 to 2147483646 [default: one that is drawn]",
+                help!("Seed of the new hill, "; seed; " [default: one that is drawn]"),
             ),
         ],
         takes: Takes::Nothing,

@@ -8,6 +8,19 @@ use crate::arguments::Argument::{self, File, Flag, Lettered, Number, Text};
 use crate::building::{headed, with_arguments};
 use clap::Command;
 use std::alloc::{AllocError, Global};
+use war_types::range_of;
+
+/// A help text with the range of a setting in it.
+macro_rules! help {
+    ($before:literal; $setting:ident; $after:literal) => {
+        range_of!($setting, help, $before, $after)
+    };
+    ($least:literal, $most:literal, $before:literal, $after:literal) => {
+        concat!($before, $least, " to ", $most, $after)
+    };
+}
+
+pub(crate) use help;
 
 /// The option for what messages call the input.
 pub(crate) const NAME: Argument = Text(
@@ -54,17 +67,17 @@ const MATCH: [Argument; 9] = [
     Lettered(
         "core",
         's',
-        "Cells of the core, 64 to 65535 [default: 8000]",
+        help!("Cells of the core, "; core; " [default: 8000]"),
     ),
     Lettered(
         "processes",
         'p',
-        "Most processes of each side, 1 to 65535 [default: 8000]",
+        help!("Most processes of each side, "; processes; " [default: 8000]"),
     ),
     Lettered(
         "length",
         'l',
-        "Most instructions of a warrior, 1 to 200 [default: 100]",
+        help!("Most instructions of a warrior, "; length; " [default: 100]"),
     ),
     Lettered(
         "distance",
@@ -74,9 +87,13 @@ const MATCH: [Argument; 9] = [
     Lettered(
         "cycles",
         'c',
-        "Turns of each side in a round, 1 to 1000000 [default: 80000]",
+        help!("Turns of each side in a round, "; cycles; " [default: 80000]"),
     ),
-    Lettered("rounds", 'r', "Rounds of a match, 1 to 1000 [default: 10]"),
+    Lettered(
+        "rounds",
+        'r',
+        help!("Rounds of a match, "; rounds; " [default: 10]"),
+    ),
     Number(
         "read-limit",
         "Cells within which an operand reads, a divisor of --core; 0 is all of it [default: 0]",
@@ -91,11 +108,11 @@ const MATCH: [Argument; 9] = [
 const HILL: [Argument; 2] = [
     Number(
         "seed",
-        "Seed of the positions, 1 to 2147483646; give each hill its own, 1 is known to all [default: 1]",
+        help!("Seed of the positions, "; seed; "; give each hill its own, 1 is known to all [default: 1]"),
     ),
     Number(
         "capacity",
-        "Most warriors on the hill, 1 to 20 [default: 20]",
+        help!("Most warriors on the hill, "; capacity; " [default: 20]"),
     ),
 ];
 

@@ -6,6 +6,24 @@ ghost use Rattle.war_types.specs.Settings.{AreSettings, is_from_to, is_limit, li
 use std::marker::Model;
 use thiserror::Error;
 
+/// Gives a macro the least and the greatest number of a setting: `range_of!(core, is_in, n)` is `is_in!(64, 65535, n)`. The check of settings, the
+/// help of options and the text of a refusal all take them from here.
+#[macro_export]
+macro_rules! range_of {
+    (core, $user:ident $($more:tt)*) => { $user!(64, 65535 $($more)*) };
+    (cycles, $user:ident $($more:tt)*) => { $user!(1, 1000000 $($more)*) };
+    (processes, $user:ident $($more:tt)*) => { $user!(1, 65535 $($more)*) };
+    (length, $user:ident $($more:tt)*) => { $user!(1, 200 $($more)*) };
+    (rounds, $user:ident $($more:tt)*) => { $user!(1, 1000 $($more)*) };
+    (seed, $user:ident $($more:tt)*) => { $user!(1, 2147483646 $($more)*) };
+    (capacity, $user:ident $($more:tt)*) => { $user!(1, 20 $($more)*) };
+}
+
+/// Whether a number is within these.
+macro_rules! is_in {
+    ($least:literal, $most:literal, $number:expr) => { is_from_to($least, $most, $number) };
+}
+
 /// Ten numbers that nobody has checked yet.
 #[derive(Clone, Copy, Debug, PartialEq, Eq)]
 pub struct RawSettings {
@@ -81,28 +99,28 @@ impl Settings {
     pub fn new(raw: RawSettings) -> Result<Settings, SettingsFault>
         ensures { result ≡ settings_of raw }
     {
-        if !is_from_to(64, 65_535, raw.core) {
+        if !range_of!(core, is_in, raw.core) {
             return Err(SettingsFault::Core);
         }
-        if !is_from_to(1, 1_000_000, raw.cycles) {
+        if !range_of!(cycles, is_in, raw.cycles) {
             return Err(SettingsFault::Cycles);
         }
-        if !is_from_to(1, 65_535, raw.processes) {
+        if !range_of!(processes, is_in, raw.processes) {
             return Err(SettingsFault::Processes);
         }
-        if !is_from_to(1, 200, raw.length) {
+        if !range_of!(length, is_in, raw.length) {
             return Err(SettingsFault::Length);
         }
         if !is_distance(raw.distance, raw.length, raw.core) {
             return Err(SettingsFault::Distance);
         }
-        if !is_from_to(1, 1000, raw.rounds) {
+        if !range_of!(rounds, is_in, raw.rounds) {
             return Err(SettingsFault::Rounds);
         }
-        if !is_from_to(1, 2_147_483_646, raw.seed) {
+        if !range_of!(seed, is_in, raw.seed) {
             return Err(SettingsFault::Seed);
         }
-        if !is_from_to(1, 20, raw.capacity) {
+        if !range_of!(capacity, is_in, raw.capacity) {
             return Err(SettingsFault::Capacity);
         }
         if !is_limit(raw.core, raw.read_limit) {
