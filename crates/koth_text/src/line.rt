@@ -3,6 +3,7 @@
 ghost use Rattle.std.specs.Prelude.{◌≡◌, ◌+◌, ◌≤◌, ◌++◌, [], length, codes, decimal, vec_capacity, vec_len};
 ghost use Rattle.war_types.specs.Fault.{kind_name};
 
+use arrayvec::ArrayVec;
 use itoa::Buffer;
 use std::alloc::Allocator;
 use std::marker::Model;
@@ -11,18 +12,15 @@ use war_types::AsmKind;
 /// The bytes of a line so far, at most 96. It needs no memory.
 #[derive(Drop)]
 pub struct Line {
-    bytes: [u8; 96],
-    len: usize,
+    bytes: ArrayVec<u8, 96>,
 }
 
 impl Model for Line {
-    ghost use Rattle.std.specs.Prelude.{◌≤◌, ℕ, List, take};
+    ghost use Rattle.std.specs.Prelude.{ℕ, List};
 
     ghost Value = { List ℕ };
 
-    ghost view = { λ l. take l.len l.bytes };
-
-    ghost invariant = { λ l. l.len ≤ 96 };
+    ghost view = { λ l. l.bytes.items };
 }
 
 impl Line {
@@ -31,8 +29,7 @@ impl Line {
         ensures { result ≡ [] }
     {
         Line {
-            bytes: [0; 96],
-            len: 0,
+            bytes: ArrayVec::new(),
         }
     }
 
@@ -42,9 +39,7 @@ impl Line {
         ensures value { self.new ≡ self.old ++ bytes.now }
         ensures len { length self.new ≡ length self.old + length bytes.now }
     {
-        let end = self.len + bytes.len();
-        self.bytes[self.len..end].copy_from_slice(bytes);
-        self.len = end;
+        let _ = self.bytes.try_extend_from_slice(bytes);
     }
 
     /// Writes a number in decimal digits.
@@ -72,13 +67,13 @@ impl Line {
         requires { vec_len text.old + 96 ≤ vec_capacity text.old }
         ensures { text.new.items ≡ text.old.items ++ self.now }
     {
-        let _ = text.extend_from_slice(&self.bytes[..self.len]);
+        let _ = text.extend_from_slice(self.bytes.as_slice());
     }
 
     /// The bytes that were put.
     pub fn as_slice(&self) -> &[u8]
         ensures { result.now ≡ self.now }
     {
-        &self.bytes[..self.len]
+        self.bytes.as_slice()
     }
 }
