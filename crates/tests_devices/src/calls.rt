@@ -1,137 +1,153 @@
-//! The calls of devices, as the tests make them. These functions have no clauses, so the proof of a test carries none of a
-//! call's along. A call that is to be done and isn't ends the test at once, so a test has no way out of its middle.
+//! The calls of devices, as the tests make them, each with the calls that reach its file. These functions have no clauses, so the proof of a test
+//! carries none of a call's along. A call that doesn't come out as it has to ends the test at once, so a test has no way out of its middle.
 
+use crate::deeds::{Deed, act};
+use crate::watched::{Calls, NEVER, WatchedFiles};
 use sector_disk::{Device, Fault};
-use std::fmt::{Debug, Display};
+use std::fmt::Debug;
 use std::process::Abort;
+use std::rt::Files;
 
 /// What was found is what is due. If it isn't, the note says what was looked at.
-pub(crate) fn expect_same<T: PartialEq + Debug>(
-    rt: &impl Abort,
-    found: &T,
-    due: &T,
-    note: impl Display + Drop,
-) {
+pub(crate) fn expect_same<T: PartialEq + Debug>(rt: &impl Abort, found: &T, due: &T, note: &str) {
     assert_eq!(rt; *found, *due, "{note}");
 }
 
-/// The device has `count` sectors.
-pub(crate) fn expect_sectors<D: Device>(rt: &impl Abort, device: &D, count: u32) {
-    expect_same(rt, &device.sectors(), &count, "sectors");
-}
-
-/// The device has counted `count` faults.
-pub(crate) fn expect_faults<D: Device>(rt: &impl Abort, device: &D, count: u64) {
-    expect_same(rt, &device.faults(), &count, "faults");
-}
-
-/// A write of one byte all over a sector ends so.
-fn expect_written<D: Device>(
-    rt: &impl Abort,
-    device: &mut D,
-    n: u32,
-    byte: u8,
-    answer: Result<(), Fault>,
-) {
-    assert!(rt; n < device.sectors());
-    expect_same(rt, &device.write(n, &[byte; 512]), &answer, "a write");
-}
-
-/// A sync that fails, and counts one more than `faults`.
-fn expect_refused<D: Device>(rt: &impl Abort, device: &mut D, faults: u64) {
-    expect_faults(rt, device, faults);
-    expect_same(rt, &device.sync(), &Err(Fault), "a sync");
-    expect_faults(rt, device, faults.saturating_add(1));
-}
-
-/// A write to a sector that fails, and counts one more than `faults`.
-fn expect_unwritten<D: Device>(rt: &impl Abort, device: &mut D, n: u32, faults: u64) {
-    expect_faults(rt, device, faults);
-    expect_written(rt, device, n, 7, Err(Fault));
-    expect_faults(rt, device, faults.saturating_add(1));
-}
-
-/// What a sector holds, which a test never fills with 255. The read ends so.
-fn read<D: Device>(
-    rt: &impl Abort,
-    device: &mut D,
-    n: u32,
-    answer: Result<(), Fault>,
-) -> [u8; 512] {
-    let mut content = [255; 512];
-    assert!(rt; n < device.sectors());
-    expect_same(rt, &device.read(n, &mut content), &answer, "a read");
-    content
-}
-
-/// A sector reads as one byte all over, and as another at its end.
-fn expect_read<D: Device>(rt: &impl Abort, device: &mut D, n: u32, byte: u8, last: u8) {
-    let mut expected = [byte; 512];
-    expected[511] = last;
-    let content = read(rt, device, n, Ok(()));
-    expect_same(rt, &content, &expected, format_args!("of sector {n}"));
-}
-
-/// A read that fails, and counts the first fault.
-fn expect_unread<D: Device>(rt: &impl Abort, device: &mut D, n: u32) {
-    read(rt, device, n, Err(Fault));
-    expect_faults(rt, device, 1);
-}
-
-/// The sectors of a device that was made. It is dropped.
-pub(crate) fn sectors_of<D: Device + Drop, E>(made: Result<D, E>) -> Result<u32, E> {
-    match made {
-        Ok(device) => Ok(device.sectors()),
-        Err(fault) => Err(fault),
-    }
+/// A call of a device.
+#[derive(Clone, Copy)]
+pub(crate) enum Call {
+    /// A byte is written all over a sector.
+    Write(u32, u8),
+    /// A sector is read: it is one byte all over, and another at its end.
+    Read(u32, u8, u8),
+    /// What was written is synced.
+    Sync,
 }
 
 /// A call of a device, and what has to come of it.
 #[derive(Clone, Copy)]
 pub(crate) enum Step {
-    /// The number of its sectors.
-    Sectors(u32),
-    /// The number of faults that it has counted.
-    Faults(u64),
-    /// A byte is written all over a sector.
-    Write(u32, u8),
-    /// A sector reads as one byte all over.
-    Read(u32, u8),
-    /// A sector reads as one byte all over, but for a zero at its end.
-    ReadPart(u32, u8),
-    /// A sector can't be read, and that is the first fault.
-    Unread(u32),
-    /// A sector can't be written after this number of faults.
-    Unwritten(u32, u64),
-    /// A sync is done.
-    Sync,
-    /// A sync that fails after this number of faults.
-    Refused(u64),
+    /// It is done, by these calls of the file.
+    Done(Call, &'static [u8]),
+    /// It is a fault, after these calls.
+    Fault(Call, &'static [u8]),
+    /// It makes these calls, and is a fault if one fails of the first number up to the second. Each of them does in turn.
+    Fails(Call, &'static [u8], usize, usize),
+    /// Something is done to the file, or looked at.
+    At(Deed),
 }
 
-/// This call of a device comes out so.
-pub(crate) fn take<D: Device>(rt: &impl Abort, device: &mut D, step: Step) {
-    match step {
-        Step::Sectors(count) => expect_sectors(rt, device, count),
-        Step::Faults(count) => expect_faults(rt, device, count),
-        Step::Write(n, byte) => expect_written(rt, device, n, byte, Ok(())),
-        Step::Read(n, byte) => expect_read(rt, device, n, byte, byte),
-        Step::ReadPart(n, byte) => expect_read(rt, device, n, byte, 0),
-        Step::Unread(n) => expect_unread(rt, device, n),
-        Step::Unwritten(n, faults) => expect_unwritten(rt, device, n, faults),
-        Step::Sync => expect_same(rt, &device.sync(), &Ok(()), "a sync"),
-        Step::Refused(faults) => expect_refused(rt, device, faults),
+/// How a write ends. A sector that there isn't is a fault that is not counted.
+fn written<D: Device>(device: &mut D, n: u32, byte: u8) -> Result<(), Fault> {
+    if n >= device.sectors() {
+        return Err(Fault);
+    }
+    device.write(n, &[byte; 512])
+}
+
+/// How a read ends. Another content is a fault that is not counted, as is a sector that there isn't. A test never fills one with 255.
+fn read<D: Device>(device: &mut D, n: u32, byte: u8, last: u8) -> Result<(), Fault> {
+    if n >= device.sectors() {
+        return Err(Fault);
+    }
+    let mut expected = [byte; 512];
+    expected[511] = last;
+    let mut content = [255; 512];
+    device.read(n, &mut content)?;
+    if content == expected {
+        Ok(())
+    } else {
+        Err(Fault)
     }
 }
 
-/// The text that a value is shown as.
-fn text_of<D: Display>(rt: &(impl Abort + AllocGlobal), told: &D) -> String {
-    format!(in rt.alloc(); "{told}").expect(rt, "there is memory")
+/// How a call of a device ends.
+pub(crate) fn ended<D: Device>(device: &mut D, call: Call) -> Result<(), Fault> {
+    match call {
+        Call::Write(n, byte) => written(device, n, byte),
+        Call::Read(n, byte, last) => read(device, n, byte, last),
+        Call::Sync => device.sync(),
+    }
 }
 
-/// A value is shown as this text.
-pub(crate) fn expect_text<D: Display>(rt: &(impl Abort + AllocGlobal), told: &D, text: &str) {
-    let shown = text_of(rt, told);
-    expect_same(rt, &shown.as_str(), &text, "a text");
-    drop(shown);
+/// A call of a device ends so, after these calls of the file, of which the one of this number fails. A fault is counted.
+fn expect_ended<D: Device, R: Abort>(
+    on: &WatchedFiles<'_, R>,
+    device: &mut D,
+    call: Call,
+    fails_at: usize,
+    answer: Result<(), Fault>,
+    letters: Option<&[u8]>,
+) {
+    let faults = device.faults().saturating_add(u64::from(answer.is_err()));
+    on.calls.set(Calls::none(fails_at, NEVER));
+    let found = ended(device, call);
+    let so_far = on.calls.get();
+    let made = so_far.letters.get(..so_far.count);
+    expect_same(
+        on.files,
+        &(found, device.faults(), made),
+        &(answer, faults, letters),
+        "how it ends, its faults, and calls",
+    );
+}
+
+/// A call of a device is a fault if one of its calls of the file fails. Each does in turn, from one up to another.
+fn expect_faults<D: Device, R: Abort>(
+    on: &WatchedFiles<'_, R>,
+    device: &mut D,
+    call: Call,
+    letters: &[u8],
+    first: usize,
+    end: usize,
+) {
+    for fails_at in first..end {
+        let until = letters.get(..fails_at.saturating_add(1));
+        expect_ended(on, device, call, fails_at, Err(Fault), until);
+    }
+}
+
+/// This step comes out so.
+fn take<D: Device, R: Files + AllocGlobal + Abort>(
+    on: &WatchedFiles<'_, R>,
+    device: &mut D,
+    path: &str,
+    step: Step,
+) {
+    match step {
+        Step::Done(call, letters) => {
+            expect_ended(on, device, call, NEVER, Ok(()), Some(letters));
+        }
+        Step::Fault(call, letters) => {
+            expect_ended(on, device, call, NEVER, Err(Fault), Some(letters));
+        }
+        Step::Fails(call, letters, first, end) => {
+            expect_faults(on, device, call, letters, first, end);
+        }
+        Step::At(deed) => act(on.files, path, deed),
+    }
+}
+
+/// These steps are taken on a device over the file at a path, one after another.
+pub(crate) fn take_all<D: Device, R: Files + AllocGlobal + Abort>(
+    on: &WatchedFiles<'_, R>,
+    device: &mut D,
+    path: &str,
+    steps: &[Step],
+) {
+    for step in steps {
+        take(on, device, path, *step);
+    }
+}
+
+/// The same on a device that has to be there, and is dropped then.
+pub(crate) fn take_on<D: Device + Drop, E: Debug, R: Files + AllocGlobal + Abort>(
+    on: &WatchedFiles<'_, R>,
+    got: Result<D, E>,
+    path: &str,
+    steps: &[Step],
+) {
+    let mut device = got.expect(on.files, "there is a device");
+    take_all(on, &mut device, path, steps);
+    drop(device);
 }

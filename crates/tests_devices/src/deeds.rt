@@ -1,75 +1,69 @@
-//! What is done at the path of a hill's file.
+//! What is done to a file, and what it has to hold.
 
-use crate::disk::{
-    copy, create_folder, expect_blocks, expect_bytes, expect_nothing, expect_private, expect_zeros,
-    link, remove, remove_folder, rename, set_length, write_file, write_filled,
-};
-use crate::hill_files::{expect_kept, expect_made, expect_opened};
-use crate::places::AtPath;
-use hill_file::{Existing, OpenFault, Sharing};
-use std::fs::File;
+use crate::calls::expect_same;
+use std::fs;
+use std::fs::{File, OpenFile};
 use std::process::Abort;
 use std::rt::Files;
 
-/// What is done at a path, or has to hold there. A file beside it is named by the suffix of its path.
+/// What is done at a path, or has to hold there.
 #[derive(Clone, Copy)]
-pub(crate) enum Deed<'t> {
-    /// The file beside it is removed.
-    Remove(&'t str),
+pub(crate) enum Deed {
+    /// Whatever file is there is removed.
+    Remove,
     /// A file of these bytes is written.
-    Write(&'t [u8]),
-    /// A file is written: the number of its zeros, and the one byte after them.
-    WriteZeros(usize, u8),
-    /// The file gets another length. Zeros by which it is longer are not on the disk.
+    Write(&'static [u8]),
+    /// The file gets this length, and ends with zeros if it was shorter.
     SetLength(u64),
-    /// A file like the first one is at the second path from now on.
-    Copy(&'t str, &'t str),
-    /// The first file is at the second path from now on.
-    Rename(&'t str, &'t str),
-    /// The path is a link to the one beside it from now on.
-    Link(&'t str),
-    /// A folder is made.
-    CreateFolder,
-    /// It is removed.
-    RemoveFolder,
-    /// There is nothing.
-    Nothing,
     /// The file holds these sectors.
-    Holds(&'t [[u8; 512]]),
-    /// The file has this length, and each byte is zero.
-    Zeros(usize),
-    /// The least and the most blocks that it takes on the disk.
-    Blocks(u64, u64),
-    /// It lies on the disk with three sectors, and is its owner's alone.
-    Private,
-    /// Making a hill's file with this number of sectors ends so.
-    Make(u32, Existing, Result<u32, OpenFault>),
-    /// Opening it ends so.
-    Open(Sharing, Result<u32, OpenFault>),
-    /// The file is refused, and each of its bytes stays.
-    Kept,
+    Holds(&'static [[u8; 512]]),
 }
 
-impl AtPath for Deed<'_> {
-    fn act<R: Files<File = File> + AllocGlobal + Abort>(&self, rt: &R, path: &str) {
-        match *self {
-            Deed::Remove(suffix) => remove(rt, path, suffix),
-            Deed::Write(bytes) => write_file(rt, path, bytes),
-            Deed::WriteZeros(zeros, last) => write_filled(rt, path, 0, zeros, &[last]),
-            Deed::SetLength(bytes) => set_length(rt, path, bytes),
-            Deed::Copy(from, to) => copy(rt, path, from, to),
-            Deed::Rename(from, to) => rename(rt, path, from, to),
-            Deed::Link(to) => link(rt, path, to),
-            Deed::CreateFolder => create_folder(rt, path),
-            Deed::RemoveFolder => remove_folder(rt, path),
-            Deed::Nothing => expect_nothing(rt, path),
-            Deed::Holds(sectors) => expect_bytes(rt, path, sectors.as_flattened()),
-            Deed::Zeros(length) => expect_zeros(rt, path, length),
-            Deed::Blocks(least, most) => expect_blocks(rt, path, least, most),
-            Deed::Private => expect_private(rt, path),
-            Deed::Make(asked, existing, answer) => expect_made(rt, path, asked, existing, answer),
-            Deed::Open(sharing, answer) => expect_opened(rt, path, sharing, answer),
-            Deed::Kept => expect_kept(rt, path),
-        }
+/// This is done at a path, or looked at.
+pub(crate) fn act(rt: &(impl Files + AllocGlobal + Abort), path: &str, deed: Deed) {
+    match deed {
+        Deed::Remove => remove(rt, path),
+        Deed::Write(bytes) => write_file(rt, path, bytes),
+        Deed::SetLength(bytes) => set_length(rt, path, bytes),
+        Deed::Holds(sectors) => expect_bytes(rt, path, sectors.as_flattened()),
     }
+}
+
+/// No file is at the path from now on.
+pub(crate) fn remove(rt: &impl Files, path: &str) {
+    let _ = fs::remove_file(rt, path);
+}
+
+/// Writes a file of these bytes.
+pub(crate) fn write_file(rt: &(impl Files + Abort), path: &str, bytes: &[u8]) {
+    fs::write(rt, path, bytes).expect(rt, "the file is written");
+}
+
+/// The file has `bytes` bytes from now on.
+pub(crate) fn set_length(rt: &(impl Files + Abort), path: &str, bytes: u64) {
+    let file = File::options()
+        .write(true)
+        .open(rt, path)
+        .expect(rt, "the file is opened");
+    file.set_len(bytes).expect(rt, "its length is set");
+}
+
+/// The bytes of a file.
+fn bytes_of(rt: &(impl Files + AllocGlobal + Abort), path: &str) -> Vec<u8> {
+    fs::read(rt, path).expect(rt, "the file is read")
+}
+
+/// A file holds these bytes.
+fn expect_bytes(rt: &(impl Files + AllocGlobal + Abort), path: &str, due: &[u8]) {
+    let bytes = bytes_of(rt, path);
+    expect_same(rt, &bytes.as_slice(), &due, "what the file holds");
+    drop(bytes);
+}
+
+/// Whether a file begins with this byte.
+pub(crate) fn begins_with(rt: &(impl Files + AllocGlobal + Abort), path: &str, byte: u8) -> bool {
+    let bytes = bytes_of(rt, path);
+    let begins = bytes.as_slice().starts_with(&[byte]);
+    drop(bytes);
+    begins
 }

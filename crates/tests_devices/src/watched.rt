@@ -1,5 +1,5 @@
-//! A file system that writes down which calls reach a file, in place of the real one, and hands them on to it. Calls that no
-//! device makes are left out if the trait permits that, and are `Unsupported`.
+//! A file system that writes down which calls reach a file, in place of the real one, and hands them on to it. One of the calls fails, or another
+//! program writes to the file before it. Calls that no device makes are left out if the trait permits that, and are `Unsupported`.
 
 use hill_file::{OpenFault, TryLock};
 use std::alloc::Allocator;
@@ -11,24 +11,31 @@ use std::os::unix::fs::FileExt;
 use std::path::PathBuf;
 
 /// Calls that are written down at most.
-pub(crate) const MOST: usize = 64;
+const MOST: usize = 64;
 
-/// The calls on files since the last time that they were read, each a letter: `o`pened, loc`k`ed, `m`easured, `l`engthened, `s`ought,
-/// `r`ead, `w`ritten whole, written in `p`art, s`y`nced. The call of this number fails, counted from 0.
+/// The number of a call that is not made.
+pub(crate) const NEVER: usize = usize::MAX;
+
+/// The calls on files since the last time that they were forgotten, each a letter: `o`pened, loc`k`ed, `m`easured, `l`engthened, `s`ought,
+/// `r`ead, `w`ritten whole, written in `p`art, s`y`nced. Calls are counted from 0.
 #[derive(Clone, Copy)]
 pub(crate) struct Calls {
     pub letters: [u8; MOST],
     pub count: usize,
-    pub fails_at: usize,
+    /// The number of the call that fails.
+    fails_at: usize,
+    /// Another program fills the first sector with nines before the call of this number.
+    filled_at: usize,
 }
 
 impl Calls {
-    /// No call so far. The one of this number from now on fails.
-    pub(crate) fn none(fails_at: usize) -> Calls {
+    /// No call so far. From now on these are the numbers of the call that fails and of the one before which another program writes.
+    pub(crate) fn none(fails_at: usize, filled_at: usize) -> Calls {
         Calls {
             letters: [b' '; MOST],
             count: 0,
             fails_at,
+            filled_at,
         }
     }
 }
@@ -47,13 +54,8 @@ pub(crate) struct WatchedFile<'c, F> {
     calls: &'c Cell<Calls>,
 }
 
-/// Forgets the calls so far. The call of this number from now on fails.
-pub(crate) fn forget(calls: &Cell<Calls>, fails_at: usize) {
-    calls.set(Calls::none(fails_at));
-}
-
 /// Writes a call down, and fails if it is the one that is to fail.
-pub(crate) fn note(calls: &Cell<Calls>, letter: u8) -> io::Result<()> {
+fn note(calls: &Cell<Calls>, letter: u8) -> io::Result<()> {
     let mut so_far = calls.get();
     let number = so_far.count;
     if number < MOST {
@@ -67,7 +69,21 @@ pub(crate) fn note(calls: &Cell<Calls>, letter: u8) -> io::Result<()> {
     Ok(())
 }
 
-impl<'c, R: Files> Files for WatchedFiles<'c, R> {
+impl<F: FileExt> WatchedFile<'_, F> {
+    /// The other program writes if it is its turn, and the call is written down.
+    fn begin(&self, letter: u8) -> io::Result<()> {
+        let so_far = self.calls.get();
+        if so_far.count == so_far.filled_at {
+            self.file.write_at(&[9; 512], 0)?;
+        }
+        note(self.calls, letter)
+    }
+}
+
+impl<'c, R: Files> Files for WatchedFiles<'c, R>
+where
+    R::File: FileExt,
+{
     type File = WatchedFile<'c, R::File>;
 
     type Dir = R::Dir;
@@ -122,19 +138,19 @@ impl<'c, R: Files> Files for WatchedFiles<'c, R> {
     }
 }
 
-impl<F: OpenFile> OpenFile for WatchedFile<'_, F> {
+impl<F: OpenFile + FileExt> OpenFile for WatchedFile<'_, F> {
     fn metadata(&self) -> io::Result<Metadata> {
-        note(self.calls, b'm')?;
+        self.begin(b'm')?;
         self.file.metadata()
     }
 
     fn set_len(&self, size: u64) -> io::Result<()> {
-        note(self.calls, b'l')?;
+        self.begin(b'l')?;
         self.file.set_len(size)
     }
 
     fn sync_all(&self) -> io::Result<()> {
-        note(self.calls, b'y')?;
+        self.begin(b'y')?;
         self.file.sync_all()
     }
 
@@ -143,16 +159,16 @@ impl<F: OpenFile> OpenFile for WatchedFile<'_, F> {
     }
 }
 
-impl<F: Read> Read for WatchedFile<'_, F> {
+impl<F: Read + FileExt> Read for WatchedFile<'_, F> {
     fn read(&mut self, buf: &mut [u8]) -> io::Result<usize> {
-        note(self.calls, b'r')?;
+        self.begin(b'r')?;
         self.file.read(buf)
     }
 }
 
-impl<F: Write> Write for WatchedFile<'_, F> {
+impl<F: Write + FileExt> Write for WatchedFile<'_, F> {
     fn write(&mut self, buf: &[u8]) -> io::Result<usize> {
-        note(self.calls, letter_of(buf))?;
+        self.begin(letter_of(buf))?;
         self.file.write(buf)
     }
 
@@ -168,26 +184,26 @@ fn letter_of(bytes: &[u8]) -> u8 {
 
 impl<F: FileExt> FileExt for WatchedFile<'_, F> {
     fn read_at(&self, buf: &mut [u8], offset: u64) -> io::Result<usize> {
-        note(self.calls, b'r')?;
+        self.begin(b'r')?;
         self.file.read_at(buf, offset)
     }
 
     fn write_at(&self, buf: &[u8], offset: u64) -> io::Result<usize> {
-        note(self.calls, letter_of(buf))?;
+        self.begin(letter_of(buf))?;
         self.file.write_at(buf, offset)
     }
 }
 
-impl<F: Seek> Seek for WatchedFile<'_, F> {
+impl<F: Seek + FileExt> Seek for WatchedFile<'_, F> {
     fn seek(&mut self, to: SeekFrom) -> io::Result<u64> {
-        note(self.calls, b's')?;
+        self.begin(b's')?;
         self.file.seek(to)
     }
 }
 
 impl<F: TryLock> TryLock for WatchedFile<'_, F> {
     fn lock_now(&self) -> Result<(), OpenFault> {
-        note(self.calls, b'k')?;
+        self.begin(b'k')?;
         self.file.lock_now()
     }
 }
