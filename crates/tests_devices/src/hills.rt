@@ -192,12 +192,12 @@ fn another_writer_at_each_call(rt: HostRuntime) {
 }
 
 /// One byte is missing of the last sector of three, and later other bytes are copied into the file: a write and a sync fail, and the bytes stay. A
-/// file that others made longer holds its sectors. When the first headers are back, the calls are done.
+/// file that others made a sector longer holds its sectors. When the first headers are back, the calls are done.
 const CHANGED: [Step; 15] = [
     Step::At(Deed::SetLength(1535)),
     Step::Fault(Call::Sync, &SYNCED),
     Step::Fault(Call::Write(2, 7), b"mr"),
-    Step::At(Deed::SetLength(2000)),
+    Step::At(Deed::SetLength(2048)),
     Step::Done(Call::Write(2, 7), &WRITTEN),
     Step::Done(Call::Sync, &SYNCED),
     Step::Done(Call::Read(2, 7, 7), b"r"),
