@@ -2,14 +2,58 @@
 //! carries none of a call's along. A call that is to be done and isn't ends the test at once, so a test has no way
 //! out of its middle.
 
-use crate::expecting::{expect, expect_count, expect_same};
+use crate::expecting::{expect, expect_count};
 use sector_disk::{Device, MemoryDevice};
-use std::alloc::{Allocator, Global};
+use std::alloc::Global;
 use std::process::Abort;
+use tests_fixtures::Refusing;
 
-/// A new device in memory.
-pub(crate) fn in_memory(rt: &(impl Abort + AllocGlobal), sectors: u32) -> MemoryDevice<Global> {
-    MemoryDevice::new(rt.alloc(), sectors).expect(rt, "there is memory")
+/// A device that takes its memory of this. No test has a device in memory of another type.
+pub(crate) type Counted<'m> = MemoryDevice<&'m Refusing<Global>>;
+
+/// A call of a device, and what has to come of it.
+#[derive(Clone, Copy)]
+pub(crate) enum Step {
+    /// The number of its sectors.
+    Sectors(u32),
+    /// A byte is written all over a sector.
+    Write(u32, u8),
+    /// A sector reads as one byte all over.
+    Read(u32, u8),
+    /// A sync is done.
+    Sync,
+    /// A sync that fails, and counts one more than this number of faults.
+    Refused(u64),
+}
+
+/// A new device of which these calls are made, without a refusal.
+pub(crate) fn made<'m>(
+    rt: &impl Abort,
+    memory: &'m Refusing<Global>,
+    sectors: u32,
+    steps: &[Step],
+) -> Counted<'m> {
+    let mut device = MemoryDevice::new(memory, sectors).expect(rt, "there is memory");
+    take_all(rt, &mut device, steps);
+    device
+}
+
+/// These calls of a device come out so, one after another.
+pub(crate) fn take_all<D: Device>(rt: &impl Abort, device: &mut D, steps: &[Step]) {
+    for step in steps {
+        take(rt, device, *step);
+    }
+}
+
+/// This call of a device comes out so.
+fn take<D: Device>(rt: &impl Abort, device: &mut D, step: Step) {
+    match step {
+        Step::Sectors(count) => expect_sectors(rt, device, count),
+        Step::Write(n, byte) => write(rt, device, n, byte),
+        Step::Read(n, byte) => expect_read(rt, device, n, byte),
+        Step::Sync => expect(rt, device.sync().is_ok(), "a sync"),
+        Step::Refused(faults) => expect_refused(rt, device, faults),
+    }
 }
 
 /// The device has `count` sectors.
@@ -29,7 +73,7 @@ pub(crate) fn write<D: Device>(rt: &impl Abort, device: &mut D, n: u32, byte: u8
 }
 
 /// Makes one byte all over a sector its stable content.
-pub(crate) fn set<A: Allocator>(rt: &impl Abort, device: &mut MemoryDevice<A>, n: u32, byte: u8) {
+pub(crate) fn set(rt: &impl Abort, device: &mut Counted<'_>, n: u32, byte: u8) {
     assert!(rt; n < device.sectors());
     device.set(n, &[byte; 512]);
 }
@@ -52,62 +96,22 @@ pub(crate) fn read<D: Device>(rt: &impl Abort, device: &mut D, n: u32) -> [u8; 5
 /// A sector reads as one byte all over.
 pub(crate) fn expect_read<D: Device>(rt: &impl Abort, device: &mut D, n: u32, byte: u8) {
     let content = read(rt, device, n);
-    expect_same(rt, &content, &[byte; 512], format_args!("of sector {n}"));
+    expect(rt, content == [byte; 512], "what is read");
 }
 
-/// What a stop with these numbers leaves of a device in memory.
-pub(crate) fn stopped<A: Allocator + Copy>(
-    rt: &impl Abort,
-    device: &MemoryDevice<A>,
-    choice: &[u32],
-) -> MemoryDevice<A> {
+/// What a stop with these numbers leaves of a device.
+pub(crate) fn stopped<'m>(rt: &impl Abort, device: &Counted<'m>, choice: &[u32]) -> Counted<'m> {
     device.stopped(choice).expect(rt, "there is memory")
 }
 
-/// A sector reads as one byte all over in what a stop leaves of a device in memory.
-pub(crate) fn expect_stopped<A: Allocator + Copy>(
+/// A sector reads as one byte all over in what a stop leaves of a device.
+pub(crate) fn expect_stopped(
     rt: &impl Abort,
-    device: &MemoryDevice<A>,
+    device: &Counted<'_>,
     choice: &[u32],
     n: u32,
     byte: u8,
 ) {
     let mut left = stopped(rt, device, choice);
     expect_read(rt, &mut left, n, byte);
-}
-
-/// A call of a device, and what has to come of it.
-#[derive(Clone, Copy)]
-pub(crate) enum Step {
-    /// The number of its sectors.
-    Sectors(u32),
-    /// The number of faults that it has counted.
-    Faults(u64),
-    /// A byte is written all over a sector.
-    Write(u32, u8),
-    /// A sector reads as one byte all over.
-    Read(u32, u8),
-    /// A sync is done.
-    Sync,
-    /// A sync that fails after this number of faults.
-    Refused(u64),
-}
-
-/// This call of a device comes out so.
-pub(crate) fn take<D: Device>(rt: &impl Abort, device: &mut D, step: Step) {
-    match step {
-        Step::Sectors(count) => expect_sectors(rt, device, count),
-        Step::Faults(count) => expect_faults(rt, device, count),
-        Step::Write(n, byte) => write(rt, device, n, byte),
-        Step::Read(n, byte) => expect_read(rt, device, n, byte),
-        Step::Sync => expect(rt, device.sync().is_ok(), "a sync"),
-        Step::Refused(faults) => expect_refused(rt, device, faults),
-    }
-}
-
-/// These calls of a device come out so, one after another.
-pub(crate) fn take_all<D: Device>(rt: &impl Abort, device: &mut D, steps: &[Step]) {
-    for step in steps {
-        take(rt, device, *step);
-    }
 }

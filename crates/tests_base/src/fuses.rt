@@ -1,10 +1,11 @@
 //! Each kind of fuse, at each number of calls, over a script of eight calls.
 
-use crate::calls::{expect_faults, expect_sectors, in_memory, read, stopped};
-use crate::expecting::{expect, expect_same};
-use sector_disk::{Device, Fault, FuseDevice, FuseKind, MemoryDevice};
+use crate::calls::{Counted, expect_faults, expect_sectors, made, read, stopped};
+use crate::expecting::expect;
+use sector_disk::{Device, Fault, FuseDevice, FuseKind};
 use std::alloc::Global;
 use std::process::Abort;
+use tests_fixtures::Refusing;
 
 /// Calls in the script.
 const CALLS: u64 = 8;
@@ -44,7 +45,7 @@ fn is_failed(kind: FuseKind, calls: u64, step: u64) -> bool {
 }
 
 /// The first bytes of both sectors, of the image that keeps all and of the one that loses all.
-fn images(rt: &impl Abort, device: &MemoryDevice<Global>) -> [u8; 4] {
+fn images(rt: &impl Abort, device: &Counted<'_>) -> [u8; 4] {
     let mut kept = stopped(rt, device, &[9, 9]);
     let mut lost = stopped(rt, device, &[]);
     [
@@ -60,13 +61,8 @@ fn expect_call<D: Device>(rt: &impl Abort, fused: &mut D, kind: FuseKind, calls:
     let failed = is_failed(kind, calls, step);
     let faults = fused.faults().saturating_add(u64::from(failed));
     let is_err = call(fused, step).is_err();
-    let answered = (is_err, fused.faults());
-    expect_same(
-        rt,
-        &answered,
-        &(failed, faults),
-        format_args!("{kind:?} of {calls}, call {step}"),
-    );
+    let is_right = is_err == failed && fused.faults() == faults;
+    assert!(rt; is_right, "{kind:?} of {calls}, call {step}");
 }
 
 /// The script on a fuse, beside the calls that are to be made on a sound device.
@@ -88,51 +84,48 @@ fn run_both<F: Device, D: Device>(
 }
 
 /// The device within a fuse met no fault, and has the images of a sound one. Answers them.
-fn expect_sound(
-    rt: &impl Abort,
-    inner: &MemoryDevice<Global>,
-    sound: &MemoryDevice<Global>,
-    kind: FuseKind,
-    calls: u64,
-) -> [u8; 4] {
+fn expect_sound(rt: &impl Abort, inner: &Counted<'_>, sound: &Counted<'_>) -> [u8; 4] {
     expect_faults(rt, inner, 0);
     let left = images(rt, inner);
-    let due = images(rt, sound);
-    expect_same(rt, &left, &due, format_args!("{kind:?} of {calls}"));
+    expect(rt, left == images(rt, sound), "images of a fuse");
     left
 }
 
 /// The script on a fuse over a device in memory. Answers the images that it leaves.
-fn run(rt: &(impl Abort + AllocGlobal), kind: FuseKind, calls: u64) -> [u8; 4] {
-    let mut fused = FuseDevice::new(in_memory(rt, 2), calls, kind);
-    let mut sound = in_memory(rt, 2);
+fn run(rt: &impl Abort, memory: &Refusing<Global>, kind: FuseKind, calls: u64) -> [u8; 4] {
+    let mut fused = FuseDevice::new(made(rt, memory, 2, &[]), calls, kind);
+    let mut sound = made(rt, memory, 2, &[]);
     run_both(rt, &mut fused, &mut sound, kind, calls);
     let inner = fused.into_inner();
-    let left = expect_sound(rt, &inner, &sound, kind, calls);
+    let left = expect_sound(rt, &inner, &sound);
     drop(inner);
     drop(sound);
     left
 }
 
-#[test]
-fn each_fuse_at_each_number_of_calls(rt: HostRuntime) {
+/// The kinds of fuses, each with the images after one at the second sync, counted by hand: kept all, lost all.
+static KINDS: [(FuseKind, [u8; 4]); 3] = [
+    (FuseKind::Stop, [3, 2, 1, 0]),
+    (FuseKind::FailLost, [3, 4, 1, 0]),
+    (FuseKind::FailKept, [3, 4, 3, 2]),
+];
+
+/// The calls of the script up to the second sync.
+const BEFORE_SYNC: u64 = 6;
+
+/// Fuses of this kind at each number of calls. One at the second sync leaves these images.
+fn run_each(rt: &impl Abort, memory: &Refusing<Global>, kind: FuseKind, due: [u8; 4]) {
     for calls in 0..=CALLS {
-        run(&rt, FuseKind::Stop, calls);
-        run(&rt, FuseKind::FailLost, calls);
-        run(&rt, FuseKind::FailKept, calls);
+        let left = run(rt, memory, kind, calls);
+        expect(rt, calls != BEFORE_SYNC || left == due, "a failed sync");
     }
 }
 
-/// The images after a fuse of this kind at the second sync.
-fn expect_images_after(rt: &(impl Abort + AllocGlobal), kind: FuseKind, due: [u8; 4]) {
-    let left = run(rt, kind, 6);
-    expect_same(rt, &left, &due, format_args!("{kind:?}"));
-}
-
-/// Counted by hand: kept all, lost all.
 #[test]
-fn a_failed_sync(rt: HostRuntime) {
-    expect_images_after(&rt, FuseKind::Stop, [3, 2, 1, 0]);
-    expect_images_after(&rt, FuseKind::FailLost, [3, 4, 1, 0]);
-    expect_images_after(&rt, FuseKind::FailKept, [3, 4, 3, 2]);
+fn each_fuse_at_each_number_of_calls(rt: HostRuntime) {
+    let memory = Refusing::new(rt.alloc());
+    for (kind, due) in &KINDS {
+        run_each(&rt, &memory, *kind, *due);
+    }
+    drop(memory);
 }

@@ -1,26 +1,17 @@
-//! Each growth refused in turn.
+//! Each growth of a device in memory refused in turn, and what takes no memory.
 
-use crate::calls::{Step, expect_faults, expect_read, expect_stopped, set, take_all, write};
-use crate::expecting::{expect_count, expect_same};
+use crate::calls::{
+    Counted, Step, expect_faults, expect_read, expect_stopped, made, set, take_all, write,
+};
+use crate::expecting::{expect, expect_count};
+use hill_bytes::{
+    Header, OldSlot, Slot, Wins, decode_header, decode_old_header, encode_header, encode_old_header,
+};
 use sector_disk::{Device, FuseDevice, FuseKind, MemoryDevice};
 use std::alloc::{AllocError, Global};
 use std::process::Abort;
-use tests_fixtures::Refusing;
-
-/// A device that takes its memory of this.
-type Counted<'m> = MemoryDevice<&'m Refusing<Global>>;
-
-/// A new device of which these calls are made, without a refusal.
-fn made<'m>(
-    rt: &impl Abort,
-    memory: &'m Refusing<Global>,
-    sectors: u32,
-    steps: &[Step],
-) -> Counted<'m> {
-    let mut device = MemoryDevice::new(memory, sectors).expect(rt, "there is memory");
-    take_all(rt, &mut device, steps);
-    device
-}
+use tests_fixtures::{IMP, Refusing, SMALL};
+use war_types::{Settings, Title, Warrior};
 
 /// `count` growths were refused.
 fn expect_refusals(rt: &impl Abort, memory: &Refusing<Global>, count: u64) {
@@ -28,10 +19,10 @@ fn expect_refusals(rt: &impl Abort, memory: &Refusing<Global>, count: u64) {
 }
 
 /// A device is there of which these calls can be made, or `refusals` growths were refused.
-fn expect_either<D: Device + Drop>(
+fn expect_either(
     rt: &impl Abort,
     memory: &Refusing<Global>,
-    made: Result<D, AllocError>,
+    made: Result<Counted<'_>, AllocError>,
     steps: &[Step],
     refusals: u64,
 ) {
@@ -47,7 +38,7 @@ fn expect_either<D: Device + Drop>(
 }
 
 /// What a new device of eight sectors is.
-const NEW: [Step; 2] = [Step::Sectors(8), Step::Read(7, 0)];
+static NEW: [Step; 2] = [Step::Sectors(8), Step::Read(7, 0)];
 
 /// A device of eight sectors is made, but for a refusal of this growth.
 fn try_new(rt: &impl Abort, memory: &Refusing<Global>, growth: u64, refusals: u64) {
@@ -56,19 +47,11 @@ fn try_new(rt: &impl Abort, memory: &Refusing<Global>, growth: u64, refusals: u6
     expect_either(rt, memory, made, &NEW, refusals);
 }
 
-#[test]
-fn a_new_device(rt: HostRuntime) {
-    let memory = Refusing::new(rt.alloc());
-    try_new(&rt, &memory, 0, 1);
-    try_new(&rt, &memory, 1, 0);
-    drop(memory);
-}
-
 /// Two writes to the second sector.
-const WRITTEN_TWICE: [Step; 2] = [Step::Write(1, 1), Step::Write(1, 2)];
+static WRITTEN_TWICE: [Step; 2] = [Step::Write(1, 1), Step::Write(1, 2)];
 
 /// What a stop that keeps the first of them leaves.
-const KEPT_FIRST: [Step; 2] = [Step::Sectors(2), Step::Read(1, 1)];
+static KEPT_FIRST: [Step; 2] = [Step::Sectors(2), Step::Read(1, 1)];
 
 /// A stop that keeps the first of the writes to the second sector of two, but for a refusal of this growth.
 fn try_stopped(
@@ -83,9 +66,13 @@ fn try_stopped(
     expect_either(rt, memory, made, &KEPT_FIRST, refusals);
 }
 
+/// Each is one growth.
 #[test]
-fn a_stopped_device(rt: HostRuntime) {
+fn a_new_device_and_a_stopped_one(rt: HostRuntime) {
     let memory = Refusing::new(rt.alloc());
+    try_new(&rt, &memory, 0, 1);
+    try_new(&rt, &memory, 1, 0);
+    memory.refuse(0, 0);
     let device = made(&rt, &memory, 2, &WRITTEN_TWICE);
     try_stopped(&rt, &memory, &device, 0, 1);
     try_stopped(&rt, &memory, &device, 1, 0);
@@ -122,12 +109,7 @@ fn write_nine<D: Device>(
     for number in 1..=9_u8 {
         write_number(rt, device, number);
     }
-    expect_same(
-        rt,
-        &memory.refused(),
-        &refusals,
-        format_args!("growth {growth}"),
-    );
+    expect_refusals(rt, memory, refusals);
     expect_faults(rt, device, refusals);
     memory.refuse(0, 0);
 }
@@ -153,10 +135,10 @@ fn writes(rt: HostRuntime) {
 }
 
 /// One write to each of two sectors.
-const WRITTEN: [Step; 2] = [Step::Write(0, 1), Step::Write(1, 2)];
+static WRITTEN: [Step; 2] = [Step::Write(0, 1), Step::Write(1, 2)];
 
 /// A read and a sync of a device of two sectors whose first holds 1.
-const SYNCED: [Step; 3] = [Step::Sectors(2), Step::Read(0, 1), Step::Sync];
+static SYNCED: [Step; 3] = [Step::Sectors(2), Step::Read(0, 1), Step::Sync];
 
 /// They need no memory, and nor does it that the second sector holds 3 then.
 fn call_without_memory(rt: &impl Abort, memory: &Refusing<Global>, device: &mut Counted<'_>) {
@@ -166,7 +148,7 @@ fn call_without_memory(rt: &impl Abort, memory: &Refusing<Global>, device: &mut 
 }
 
 /// A read and two syncs of a device whose second sector holds 3, of which the last fails.
-const FUSED: [Step; 3] = [Step::Read(1, 3), Step::Sync, Step::Refused(0)];
+static FUSED: [Step; 3] = [Step::Read(1, 3), Step::Sync, Step::Refused(0)];
 
 /// These calls are made of the device within one whose third call fails.
 fn call_within<D: Device + Drop>(rt: &impl Abort, device: D) -> D {
@@ -191,5 +173,54 @@ fn what_takes_no_memory(rt: HostRuntime) {
     let device = call_within(&rt, device);
     expect_no_refusal(&rt, &memory, &device);
     drop(device);
+    drop(memory);
+}
+
+fn small(rt: &impl Abort) -> Settings {
+    Settings::new(SMALL).expect(rt, "they are accepted")
+}
+
+/// A header in both formats, written and read.
+fn expect_headers(rt: &impl Abort) {
+    let header = Header::new(0, small(rt), 0, &[]).expect(rt, "a header");
+    let bytes = encode_header(&header);
+    let old_bytes = encode_old_header(&header).expect(rt, "it has room");
+    drop(header);
+    expect(rt, decode_header(&bytes).is_some(), "a header");
+    expect(rt, decode_old_header(&old_bytes).is_some(), "an old header");
+}
+
+/// Slots of both formats hold the warrior, which has no results.
+fn expect_slot(rt: &impl Abort, warrior: &Warrior<&Refusing<Global>>) {
+    let slot = Slot::encode(warrior, &[Wins::NONE; 21]);
+    expect(rt, slot.results() == [Wins::NONE; 21], "results");
+    let old = OldSlot {
+        sectors: [slot.sectors[0], slot.sectors[3]],
+    };
+    expect(
+        rt,
+        old.widened().sectors == slot.sectors,
+        "a slot of the old format",
+    );
+    expect(rt, Slot::blank().sectors != slot.sectors, "no blank slot");
+}
+
+/// A warrior of one instruction, which has its memory from here.
+fn warrior_in<'m>(rt: &impl Abort, memory: &'m Refusing<Global>) -> Warrior<&'m Refusing<Global>> {
+    let code = Vec::from_slice(memory, &[IMP]).expect(rt, "there is memory");
+    let name = Title::new(b"", "Unnamed");
+    let author = Title::new(b"", "Anonymous");
+    Warrior::new(code, 0, name, author, &small(rt)).expect(rt, "it fits")
+}
+
+#[test]
+fn headers_and_slots_need_none(rt: HostRuntime) {
+    let memory = Refusing::new(rt.alloc());
+    let warrior = warrior_in(&rt, &memory);
+    memory.refuse(0, u64::MAX);
+    expect_headers(&rt);
+    expect_slot(&rt, &warrior);
+    expect_refusals(&rt, &memory, 0);
+    drop(warrior);
     drop(memory);
 }

@@ -1,18 +1,18 @@
-//! Tests of the public calls of `war_types` and `sector_disk`, on which all other crates stand, and of the tests'
-//! allocator.
+//! Tests of the public calls of `war_types`, `sector_disk` and `hill_bytes`, on which all other crates stand, and of the
+//! tests' allocator.
 //!
 //! No crate stands on this one, so those are proved once, without tests, and the tests are proved over them. A module a
 //! subject:
 //!
-//! - `faults`: how faults are named, and `stored`: how instructions and titles are stored;
 //! - `refusing`: the allocator of `tests_fixtures`, on which all tests of growths stand;
-//! - `devices`, `images` and `fuses`: the device in memory, each image that a stop leaves of it, and the device that
-//!   fails;
-//! - `growths`: each growth of memory of these devices refused in turn.
+//! - `devices` and `fuses`: the device in memory, with each image that a stop leaves of it, and the device that fails;
+//! - `growths`: each growth of memory of these devices refused in turn, and what takes no memory, as headers and slots;
+//! - `faults`: how faults are written.
 //!
 //! `calls` has the calls of a device as the tests make them, and `expecting` how the tests compare. What they expect
-//! was counted by hand. A test here must not show what a contract could say instead. `tests_bytes` tries which settings
-//! and warriors are accepted, and `tests_devices` devices over files.
+//! was counted by hand. A test here must not show what a contract could say instead, or what the program shows: which
+//! settings, titles and warriors are taken is in `bench/rows` and `bench/transcripts`, and `bench/images` compares the
+//! bytes of a hill. `tests_devices` tries devices over files.
 #![tactic(auto)]
 
 #[cfg(test)]
@@ -28,8 +28,4 @@ mod fuses;
 #[cfg(test)]
 mod growths;
 #[cfg(test)]
-mod images;
-#[cfg(test)]
 mod refusing;
-#[cfg(test)]
-mod stored;

@@ -9,7 +9,7 @@
 //!
 //! `hills` makes hills and their devices, and `expecting` has what tests expect of a store, which they call by
 //! `tests_stores`. What they expect was counted by hand. A test here must not show what a contract could say instead.
-//! `tests_bytes` tries headers and slots, `tests_look` copies and growths of memory that are refused, and
+//! `bench/images` compares headers and slots, `tests_look` tries copies and growths of memory that are refused, and
 //! `tests_migration` hills that are moved.
 #![tactic(auto)]
 
