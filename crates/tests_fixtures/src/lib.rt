@@ -1,4 +1,4 @@
-//! What the crates of tests share: an allocator that refuses growths, streams that fail, settings and warriors, and an old hill.
+//! What the crates of tests share: an allocator that refuses growths, streams that fail, settings and instructions, and an old hill.
 //!
 //! No crate of the program stands on this one. Nothing here says what is expected: that is the tests' part.
 //!
@@ -6,7 +6,7 @@
 //!   `allocate`, so each larger block that a collection asks for is one;
 //! - `reading`, `writing` and `interrupted`: readers and writers that fail, are full, go on for long, or whose calls are each tried twice.
 //!   A stream of the system does so seldom, and not when a test wants it;
-//! - `warriors`: settings, instructions and warriors. A warrior fits its settings, as the calls that take one ask;
+//! - `warriors`: settings, and the instructions of warriors;
 //! - `earlier_hill`: the device of a hill in the old format;
 //! - `tables`: macros by which tests write their tables.
 //!
@@ -31,10 +31,7 @@ use plan::Plan;
 pub use reading::{FailingReader, Padded, reader};
 use std::alloc::{AllocError, Allocator};
 use std::cell::Cell;
-pub use warriors::{
-    BACK, DIE, IMP, Instr, LARGEST, Mode, Modifier, Op, RawSettings, SMALL, STAY, USUAL, dat,
-    direct, instr, titled, warrior,
-};
+pub use warriors::{DIE, IMP, Instr, Mode, Modifier, Op, RawSettings, SMALL, STAY, USUAL, dat};
 pub use writing::{FULL, Full, FullWriter, writer};
 
 /// The most runs of `refuse_each`.

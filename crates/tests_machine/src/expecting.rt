@@ -1,4 +1,4 @@
-//! How the tests compare, each by one function, so that no test carries a comparison's proof along.
+//! How the tests compare, by one function, so that no test carries a comparison's proof along.
 
 use std::fmt::{Debug, Display};
 use std::process::Abort;
@@ -11,9 +11,4 @@ pub(crate) fn expect_same<T: PartialEq + Debug>(
     note: impl Display + Drop,
 ) {
     assert_eq!(rt; *found, *due, "{note}");
-}
-
-/// This holds. If it doesn't, the note says what was looked at.
-pub(crate) fn expect(rt: &impl Abort, holds: bool, note: &str) {
-    assert!(rt; holds, "{note}");
 }

@@ -1,23 +1,28 @@
-//! Tests of the public calls of `mars_core`, `koth_match` and `koth_replay`: the machine, matches, and what is shown of
-//! rounds.
+//! Tests of the public calls of `mars_core`, `koth_match`, `koth_replay`, `koth_hill`, `koth_views` and `koth_page` that the program can't be made to
+//! make by a script.
 //!
-//! No crate stands on this one, so those are proved once, without tests, and the tests are proved over them, with the
-//! warriors of `tests_fixtures`. A module a subject:
+//! No crate stands on this one, so those are proved once, without tests, and the tests are proved over them. A module a subject:
 //!
-//! - `machine`: single turns and whole rounds;
-//! - `matches`: the seeds, places and counts of matches;
-//! - `replays`: the events of a round's turns.
+//! - `making`: settings, warriors and hills for the tests;
+//! - `arenas`: a new arena, and matches and rounds in one arena, for which all memory is refused;
+//! - `replays`: how many turns of a round are kept;
+//! - `steps`: a challenge that is fought in steps;
+//! - `growths`: which calls take memory, each growth refused in turn.
 //!
-//! `expecting` has how the tests compare. What they expect was worked by hand. A test here calls only what those crates
-//! offer to all others. It must not show what a contract could say instead. `tests_hills` tries hills, and which calls
-//! take memory.
+//! All memory is that of one type of allocator, `&Refusing<Global>`, so the calls are compiled for no other. `expecting` has how the tests compare. What
+//! they expect was worked by hand. A test here calls only what those crates offer to all others. It must not show what a contract could say instead.
+//! Single turns and rounds are compared by `bench/turns`, hills by `bench/ranking`, and matches, tables and pages by the transcripts of `bench/commands`.
 #![tactic(auto)]
 
 #[cfg(test)]
+mod arenas;
+#[cfg(test)]
 mod expecting;
 #[cfg(test)]
-mod machine;
+mod growths;
 #[cfg(test)]
-mod matches;
+mod making;
 #[cfg(test)]
 mod replays;
+#[cfg(test)]
+mod steps;
