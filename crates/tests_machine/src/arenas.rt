@@ -80,7 +80,7 @@ fn left_over(arena: &Arena<&Refusing<Global>>, core: u16, cells: [(u16, Instr); 
 }
 
 /// The ties of two matches in an arena, the first cell that isn't as the round after them begins, and how this round ends. The arena's memory is refused
-/// once it is made.
+/// once it is made, and the warriors are in `calm`.
 fn fought(
     rt: &impl Abort,
     calm: &Refusing<Global>,

@@ -97,47 +97,48 @@ fn is_given(
     }
 }
 
-/// How many growths a call has. Each of them is refused in turn, and then the call gives nothing. With memory it gives what is due.
+/// How many growths a call of this name has. Each of them is refused in turn, and then the call gives nothing. With memory it gives what is due.
 fn growths_of(
     rt: &impl Abort,
     calm: &Refusing<Global>,
     memory: &Refusing<Global>,
     hill: &Hill<&Refusing<Global>>,
+    name: &str,
     call: Call,
 ) -> u64 {
     for k in 0..MOST_RUNS {
         memory.refuse(k, 1);
         let found = is_given(rt, calm, memory, hill, call);
         if memory.refused() == 0 {
-            expect_same(rt, &found, &Some(true), "with memory");
+            expect_same(rt, &found, &Some(true), name);
             return k;
         }
-        expect_same(rt, &found, &None, "with a growth refused");
+        expect_same(rt, &found, &None, name);
     }
     panic!(rt; "it has more growths")
 }
 
-/// Each call has this many growths at least, and this many at most.
-static CALLS: [(Call, u64, u64); 7] = [
+/// A call, its least number of growths, and its greatest.
+static CALLS: [(&str, Call, u64, u64); 7] = [
     // its cells, the list of those that were written, and two queues
-    (Call::Arena, 4, 4),
-    (Call::Hill, 1, 1),
-    (Call::Rows, 1, 1),
-    (Call::Table, 1, MOST_RUNS),
-    (Call::Page(Links::None), 1, MOST_RUNS),
-    (Call::Page(Links::Rounds), 1, MOST_RUNS),
+    ("an arena", Call::Arena, 4, 4),
+    ("a hill", Call::Hill, 1, 1),
+    ("rows", Call::Rows, 1, 1),
+    ("a table", Call::Table, 1, MOST_RUNS),
+    ("a page", Call::Page(Links::None), 1, MOST_RUNS),
+    ("a page with links", Call::Page(Links::Rounds), 1, MOST_RUNS),
     // what is loaded, the turn's events, and the list of turns
-    (Call::Replay, 3, 3),
+    ("a replay", Call::Replay, 3, 3),
 ];
 
 /// Each of these calls has as many growths as it is to have.
 fn check_calls(rt: &impl Abort, calm: &Refusing<Global>, memory: &Refusing<Global>) {
     let hill = hill_of_two(rt, calm, settings_of(rt, SMALL));
     for row in &CALLS {
-        let (call, least, most) = *row;
-        let count = growths_of(rt, calm, memory, &hill, call);
+        let (name, call, least, most) = *row;
+        let count = growths_of(rt, calm, memory, &hill, name, call);
         let is_due = least <= count && count <= most;
-        expect_same(rt, &is_due, &true, format_args!("{count} growths"));
+        expect_same(rt, &is_due, &true, format_args!("{name}: {count} growths"));
     }
     drop(hill);
 }

@@ -1,5 +1,5 @@
-//! Tests of the public calls of `mars_core`, `koth_match`, `koth_replay`, `koth_hill`, `koth_views` and `koth_page` that the program can't be made to
-//! make by a script.
+//! Tests of the public calls of `mars_core`, `koth_match`, `koth_replay`, `koth_hill`, `koth_views` and `koth_page`, of what no script over the program
+//! shows.
 //!
 //! No crate stands on this one, so those are proved once, without tests, and the tests are proved over them. A module a subject:
 //!
