@@ -26,15 +26,15 @@ pub(crate) enum Call {
 
 /// A call of a device, and what has to come of it.
 #[derive(Clone, Copy)]
-pub(crate) enum Step {
+pub(crate) enum Step<'s> {
     /// It is done, by these calls of the file.
-    Done(Call, &'static [u8]),
+    Done(Call, &'s [u8]),
     /// It is a fault, after these calls.
-    Fault(Call, &'static [u8]),
+    Fault(Call, &'s [u8]),
     /// It makes these calls, and is a fault if one fails of the first number up to the second. Each of them does in turn.
-    Fails(Call, &'static [u8], usize, usize),
+    Fails(Call, &'s [u8], usize, usize),
     /// Something is done to the file, or looked at.
-    At(Deed),
+    At(Deed<'s>),
 }
 
 /// How a write ends. A sector that there isn't is a fault that is not counted.
@@ -112,7 +112,7 @@ fn take<D: Device, R: Files + AllocGlobal + Abort>(
     on: &WatchedFiles<'_, R>,
     device: &mut D,
     path: &str,
-    step: Step,
+    step: Step<'_>,
 ) {
     match step {
         Step::Done(call, letters) => {
@@ -133,7 +133,7 @@ pub(crate) fn take_all<D: Device, R: Files + AllocGlobal + Abort>(
     on: &WatchedFiles<'_, R>,
     device: &mut D,
     path: &str,
-    steps: &[Step],
+    steps: &[Step<'_>],
 ) {
     for step in steps {
         take(on, device, path, *step);
@@ -145,7 +145,7 @@ pub(crate) fn take_on<D: Device + Drop, E: Debug, R: Files + AllocGlobal + Abort
     on: &WatchedFiles<'_, R>,
     got: Result<D, E>,
     path: &str,
-    steps: &[Step],
+    steps: &[Step<'_>],
 ) {
     let mut device = got.expect(on.files, "there is a device");
     take_all(on, &mut device, path, steps);

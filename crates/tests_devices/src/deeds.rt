@@ -8,19 +8,19 @@ use std::rt::Files;
 
 /// What is done at a path, or has to hold there.
 #[derive(Clone, Copy)]
-pub(crate) enum Deed {
+pub(crate) enum Deed<'d> {
     /// Whatever file is there is removed.
     Remove,
     /// A file of these bytes is written.
-    Write(&'static [u8]),
+    Write(&'d [u8]),
     /// The file gets this length, and ends with zeros if it was shorter.
     SetLength(u64),
     /// The file holds these sectors.
-    Holds(&'static [[u8; 512]]),
+    Holds(&'d [[u8; 512]]),
 }
 
 /// This is done at a path, or looked at.
-pub(crate) fn act(rt: &(impl Files + AllocGlobal + Abort), path: &str, deed: Deed) {
+pub(crate) fn act(rt: &(impl Files + AllocGlobal + Abort), path: &str, deed: Deed<'_>) {
     match deed {
         Deed::Remove => remove(rt, path),
         Deed::Write(bytes) => write_file(rt, path, bytes),

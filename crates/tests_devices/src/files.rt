@@ -5,14 +5,14 @@ use crate::deeds::Deed;
 use crate::trials::{FAILED, Trial, Way, try_at};
 
 /// Two sectors of three are written and synced.
-const FILL: [Step; 3] = [
+const FILL: [Step<'static>; 3] = [
     Step::Done(Call::Write(1, 7), b"sw"),
     Step::Done(Call::Write(2, 8), b"sw"),
     Step::Done(Call::Sync, b"y"),
 ];
 
 /// They read as they were written.
-const FILLED: [Step; 3] = [
+const FILLED: [Step<'static>; 3] = [
     Step::Done(Call::Read(1, 7, 7), b"sr"),
     Step::Done(Call::Read(0, 0, 0), b"sr"),
     Step::Done(Call::Read(2, 8, 8), b"sr"),
@@ -52,7 +52,7 @@ static EXTENDED: [Trial; 8] = [
 ];
 
 /// The bytes of a part of a sector stay, and zeros follow them.
-const PART: [Step; 1] = [Step::Done(Call::Read(0, 6, 0), b"sr")];
+const PART: [Step<'static>; 1] = [Step::Done(Call::Read(0, 6, 0), b"sr")];
 
 /// Whole sectors count.
 static PARTS: [Trial; 16] = [
@@ -101,7 +101,7 @@ fn no_device_over_it(rt: HostRuntime) {
 }
 
 /// A file is shortened while a device of two sectors is open, so its last sector can't be read.
-const SHORTENED: [Step; 6] = [
+const SHORTENED: [Step<'static>; 6] = [
     Step::At(Deed::SetLength(700)),
     Step::Fault(Call::Read(1, 0, 0), b"srr"),
     Step::Done(Call::Read(0, 0, 0), b"sr"),
@@ -124,7 +124,7 @@ fn a_read_that_fails(rt: HostRuntime) {
 }
 
 /// A write is one seek and one write of the whole sector, a read one seek and one read, a sync one sync. Each of them that fails is a fault.
-const EACH: [Step; 6] = [
+const EACH: [Step<'static>; 6] = [
     Step::Fails(Call::Write(1, 7), b"sw", 0, 2),
     Step::Done(Call::Write(1, 7), b"sw"),
     Step::Fails(Call::Read(1, 7, 7), b"sr", 0, 2),

@@ -106,7 +106,7 @@ const DOUBTED: [u8; 15] = *b"rmrwrmrwrmrwymr";
 
 /// Each call of a device, and each of the file's in it that fails. A read needs no look. After a sync that failed the next one writes each sector
 /// again, and nothing else that fails makes it do so.
-const EACH: [Step; 12] = [
+const EACH: [Step<'static>; 12] = [
     Step::Fails(Call::Write(1, 7), &WRITTEN, 0, 3),
     Step::Done(Call::Write(1, 7), &WRITTEN),
     Step::Fails(Call::Read(1, 7, 7), b"r", 0, 1),
@@ -134,13 +134,13 @@ fn each_call_of_a_hill(rt: HostRuntime) {
 }
 
 /// The first sync writes each sector again.
-const IN_DOUBT: [Step; 2] = [
+const IN_DOUBT: [Step<'static>; 2] = [
     Step::Done(Call::Sync, &DOUBTED),
     Step::Done(Call::Sync, &SYNCED),
 ];
 
 /// What was written before it stays.
-const WRITTEN_IN_DOUBT: [Step; 6] = [
+const WRITTEN_IN_DOUBT: [Step<'static>; 6] = [
     Step::Done(Call::Write(1, 7), &WRITTEN),
     Step::Done(Call::Write(2, 3), &WRITTEN),
     Step::Done(Call::Sync, &DOUBTED),
@@ -150,7 +150,7 @@ const WRITTEN_IN_DOUBT: [Step; 6] = [
 ];
 
 /// No sync writes anything again.
-const SURE: [Step; 2] = [
+const SURE: [Step<'static>; 2] = [
     Step::Done(Call::Sync, &SYNCED),
     Step::Done(Call::Sync, &SYNCED),
 ];
@@ -193,7 +193,7 @@ fn another_writer_at_each_call(rt: HostRuntime) {
 
 /// One byte is missing of the last sector of three, and later other bytes are copied into the file: a write and a sync fail, and the bytes stay. A
 /// file that others made a sector longer holds its sectors. When the first headers are back, the calls are done.
-const CHANGED: [Step; 15] = [
+const CHANGED: [Step<'static>; 15] = [
     Step::At(Deed::SetLength(1535)),
     Step::Fault(Call::Sync, &SYNCED),
     Step::Fault(Call::Write(2, 7), b"mr"),
@@ -212,7 +212,7 @@ const CHANGED: [Step; 15] = [
 ];
 
 /// A file that is shared is only read, and its headers may change.
-const READ: [Step; 6] = [
+const READ: [Step<'static>; 6] = [
     Step::Done(Call::Sync, b"ym"),
     Step::At(Deed::Write(&[6; 1536])),
     Step::Done(Call::Sync, b"ym"),
@@ -222,7 +222,7 @@ const READ: [Step; 6] = [
 ];
 
 /// A file of one sector has no room for headers. That is noticed at its end.
-const SMALL: [Step; 2] = [
+const SMALL: [Step<'static>; 2] = [
     Step::Fault(Call::Write(0, 7), b"mrr"),
     Step::Fault(Call::Sync, b"ymrr"),
 ];

@@ -13,7 +13,7 @@ use std::process::Abort;
 use std::rt::Files;
 
 /// It is a device as others are, within one whose third call fails and makes none of its own.
-static WITHIN: [Step; 5] = [
+static WITHIN: [Step<'static>; 5] = [
     Step::Done(Call::Write(0, 1), b"mrw"),
     Step::Done(Call::Sync, b"ymr"),
     Step::Fault(Call::Sync, b""),

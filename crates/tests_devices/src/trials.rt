@@ -38,13 +38,13 @@ pub(crate) enum Trial {
     /// The same for each of these calls in turn. Whatever file is left is removed.
     StoppedAtEach(Way, &'static [u8]),
     /// These steps are taken on a device.
-    On(Way, &'static [Step]),
+    On(Way, &'static [Step<'static>]),
     /// A file of three sectors begins with these bytes, and has zeros after them. Another program fills the first sector with nines before each of the
     /// calls by which this call of a device is done. It is a fault then, and the nines stay. Only before the call of this number it is done, and the file
     /// begins with this byte.
     Beside(&'static [u8], Call, &'static [u8], usize, u8),
     /// Something is done to the file, or looked at.
-    At(Deed),
+    At(Deed<'static>),
 }
 
 /// The sectors of a device that was made. It is dropped.
@@ -134,7 +134,7 @@ fn step_on<R: Files<File = File> + AllocGlobal + Abort>(
     on: &WatchedFiles<'_, R>,
     path: &str,
     way: Way,
-    steps: &[Step],
+    steps: &[Step<'_>],
 ) {
     let alloc = on.files.alloc();
     match way {
