@@ -1,39 +1,16 @@
 //! What a store is expected to answer, and what a device to hold.
 
-use hill_store::{Reply, Store};
+use crate::hills::content_of;
+use hill_store::Store;
 use sector_disk::{Device, MemoryDevice};
-use std::alloc::{Allocator, Global};
-use std::fmt::{Debug, Display};
+use std::alloc::Allocator;
+use std::fmt::Debug;
 use std::process::Abort;
-use tests_stores::{Numbers, audit, count_rows, holds, other_row, submit};
+use tests_stores::{Numbers, audit, count_rows, holds, other_row};
 
 /// What was found is what is due. If it isn't, the note says what was looked at.
-pub(crate) fn expect_same<T: PartialEq + Debug>(
-    rt: &impl Abort,
-    found: &T,
-    due: &T,
-    note: impl Display + Drop,
-) {
-    assert_eq!(rt; *found, *due, "{note}");
-}
-
-/// The store answers this to a source.
-pub(crate) fn expect_reply<D: Device, A: Allocator + Copy>(
-    rt: &impl Abort,
-    store: &mut Store<D, A>,
-    source: &[u8],
-    reply: Reply,
-) {
-    expect_same(rt, &submit(store, source), &reply, "a reply");
-}
-
-/// The table has `count` rows.
-pub(crate) fn expect_rows<D: Device, A: Allocator + Copy>(
-    rt: &impl Abort,
-    store: &Store<D, A>,
-    count: usize,
-) {
-    expect_same(rt, &count_rows(store).ok(), &Some(count), "rows");
+pub(crate) fn expect_same<T: PartialEq + Debug>(rt: &impl Abort, found: &T, due: &T, note: &str) {
+    assert!(rt; *found == *due, "{note}: {found:?}, not {due:?}");
 }
 
 /// The rows of the table are these.
@@ -42,27 +19,19 @@ pub(crate) fn expect_table<D: Device, A: Allocator + Copy>(
     store: &Store<D, A>,
     rows: &[Numbers],
 ) {
-    expect_rows(rt, store, rows.len());
-    expect_same(rt, &other_row(store, rows), &None, "another row");
+    let found = (count_rows(store).ok(), other_row(store, rows));
+    expect_same(rt, &found, &(Some(rows.len()), None), "a table");
 }
 
-/// Both have two points, and the one that came first is one older.
-const TWO_ROWS: [Numbers; 2] = [(1, 2, 1), (2, 2, 0)];
+/// The hill of two: both have two points, and the one that came first is one older.
+static TWO_ROWS: [Numbers; 2] = [(1, 2, 1), (2, 2, 0)];
 
-/// The rows of the hill of two stand in the table.
-pub(crate) fn expect_two_rows<D: Device, A: Allocator + Copy>(
-    rt: &impl Abort,
-    store: &Store<D, A>,
-) {
-    expect_table(rt, store, &TWO_ROWS);
-}
-
-/// The two rows of a store, which is dropped.
+/// The rows of a store are those of the hill of two. It is dropped.
 pub(crate) fn expect_the_rows<D: Device + Drop, A: Allocator + Copy>(
     rt: &impl Abort,
     store: Store<D, A>,
 ) {
-    expect_two_rows(rt, &store);
+    expect_table(rt, &store, &TWO_ROWS);
     drop(store);
 }
 
@@ -71,22 +40,30 @@ pub(crate) fn expect_true<D: Device, A: Allocator + Copy>(
     rt: &impl Abort,
     store: &mut Store<D, A>,
 ) {
-    assert!(rt; audit(store));
+    expect_same(rt, &audit(store), &true, "an audit");
 }
 
-/// The two rows of a store whose results are those of the matches. It is dropped.
-pub(crate) fn expect_true_rows<D: Device + Drop>(rt: &impl Abort, mut store: Store<D, Global>) {
-    expect_true(rt, &mut store);
-    expect_two_rows(rt, &store);
-    drop(store);
-}
-
-/// The device has this in one of its sectors.
-pub(crate) fn expect_sector(
+/// The rows of a store are those of the hill of two, and its results those of the matches. It is dropped.
+pub(crate) fn expect_true_rows<D: Device + Drop, A: Allocator + Copy>(
     rt: &impl Abort,
-    device: &mut MemoryDevice<Global>,
-    n: u32,
-    content: &[u8; 512],
+    mut store: Store<D, A>,
 ) {
-    assert!(rt; holds(device, n, content) == Ok(true), "sector {n}");
+    expect_true(rt, &mut store);
+    expect_the_rows(rt, store);
+}
+
+/// These devices hold the same. They are dropped.
+pub(crate) fn expect_equal<A: Allocator + Copy>(
+    rt: &impl Abort,
+    mut device: MemoryDevice<A>,
+    mut other: MemoryDevice<A>,
+) {
+    expect_same(rt, &other.sectors(), &device.sectors(), "sectors");
+    for n in 0..device.sectors() {
+        let content = content_of(rt, &mut device, n);
+        let found = holds(&mut other, n, &content);
+        expect_same(rt, &(n, found), &(n, Ok(true)), "a sector");
+    }
+    drop(device);
+    drop(other);
 }

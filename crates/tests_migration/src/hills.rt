@@ -5,51 +5,77 @@ use hill_store::{MigrateFault, Refusal, Store};
 use sector_disk::{Device, MemoryDevice};
 use std::alloc::{Allocator, Global};
 use std::process::Abort;
-use tests_stores::{blank, created, open, put, refused, sector, settings_from};
+use tests_fixtures::Refusing;
+use tests_stores::{
+    SECTORS, SMALL, THREE, Tried, close, created, lasting, narrowed, open, refused, sector,
+    settings_from, submit, within,
+};
 use war_types::RawSettings;
 
-/// A blank device of `sectors` sectors.
-pub(crate) fn blank_of(rt: &(impl Abort + AllocGlobal), sectors: u32) -> MemoryDevice<Global> {
-    MemoryDevice::new(rt.alloc(), sectors).expect(rt, "there is memory")
+/// A blank device in memory of `sectors` sectors.
+pub(crate) fn blank_of<A: Allocator + Copy>(
+    rt: &impl Abort,
+    alloc: A,
+    sectors: u32,
+) -> MemoryDevice<A> {
+    MemoryDevice::new(alloc, sectors).expect(rt, "there is memory")
 }
 
 /// A blank device for a hill of two.
-pub(crate) fn blank_in<A: Allocator + Copy>(rt: &impl Abort, alloc: A) -> MemoryDevice<A> {
-    blank(alloc).expect(rt, "there is memory")
+pub(crate) fn new_in<'m>(rt: &impl Abort, memory: &'m Refusing<Global>) -> Tried<'m> {
+    lasting(blank_of(rt, memory, SECTORS))
 }
 
 /// What a device keeps that stops, if this is chosen of what it need not keep.
-pub(crate) fn image_of(
+pub(crate) fn image_of<A: Allocator + Copy>(
     rt: &impl Abort,
-    device: &MemoryDevice<Global>,
+    device: &MemoryDevice<A>,
     choice: &[u32],
-) -> MemoryDevice<Global> {
+) -> MemoryDevice<A> {
     device.stopped(choice).expect(rt, "there is memory")
 }
 
 /// What a device reads at one of its sectors.
-pub(crate) fn content_of(rt: &impl Abort, device: &mut MemoryDevice<Global>, n: u32) -> [u8; 512] {
+pub(crate) fn content_of<A: Allocator>(
+    rt: &impl Abort,
+    device: &mut MemoryDevice<A>,
+    n: u32,
+) -> [u8; 512] {
     sector(device, n).expect(rt, "it has the sector")
 }
 
-/// Puts a content into one of a device's sectors.
-pub(crate) fn put_into(
-    rt: &impl Abort,
-    device: &mut MemoryDevice<Global>,
-    n: u32,
-    content: &[u8; 512],
-) {
-    put(device, n, content).expect(rt, "it has the sector");
-}
-
 /// A hill without warriors, with these settings, on a device that held none.
-pub(crate) fn created_on<D: Device + Drop>(
-    rt: &(impl Abort + AllocGlobal),
+pub(crate) fn created_on<D: Device + Drop, A: Allocator + Copy>(
+    rt: &impl Abort,
+    alloc: A,
     device: D,
     raw: RawSettings,
-) -> Store<D, Global> {
+) -> Store<D, A> {
     let settings = settings_from(raw).expect(rt, "they are settings");
-    created(rt.alloc(), device, settings).expect(rt, "it is created")
+    created(alloc, device, settings).expect(rt, "it is created")
+}
+
+/// A hill of two, on which a third warrior fell: headers of the generations 2 and 3, and two slots.
+pub(crate) fn written<'m>(
+    rt: &impl Abort,
+    memory: &'m Refusing<Global>,
+) -> MemoryDevice<&'m Refusing<Global>> {
+    let mut store = created_on(rt, memory, new_in(rt, memory), SMALL);
+    for (source, reply) in &THREE {
+        expect_same(rt, &submit(&mut store, *source), reply, "a reply");
+    }
+    within(close(store))
+}
+
+/// A device in the old format with that hill.
+pub(crate) fn old_device<'m>(
+    rt: &impl Abort,
+    memory: &'m Refusing<Global>,
+) -> MemoryDevice<&'m Refusing<Global>> {
+    let mut new = written(rt, memory);
+    let old = narrowed(memory, &mut new, 3).expect(rt, "it has room");
+    drop(new);
+    old
 }
 
 /// The new device of a move failed, or nothing did.
@@ -63,11 +89,12 @@ pub(crate) fn expect_fault(rt: &impl Abort, fault: Option<MigrateFault>, fails: 
 }
 
 /// The hill that a device holds, if it holds one. What it holds else is no hill.
-pub(crate) fn hill_on<D: Device + Drop>(
-    rt: &(impl Abort + AllocGlobal),
+pub(crate) fn hill_on<D: Device + Drop, A: Allocator + Copy>(
+    rt: &impl Abort,
+    alloc: A,
     device: D,
-) -> Option<Store<D, Global>> {
-    match open(rt.alloc(), device) {
+) -> Option<Store<D, A>> {
+    match open(alloc, device) {
         Ok(store) => Some(store),
         Err((device, refusal)) => {
             drop(device);

@@ -1,13 +1,13 @@
 //! What a stop, or one fault, leaves of a hill of two that is moved to another device.
 
 use crate::expecting::{expect_same, expect_the_rows, expect_true_rows};
-use crate::hills::{blank_in, expect_fault, hill_on, image_of};
-use crate::migrations::old_device;
+use crate::hills::{blank_of, expect_fault, hill_on, image_of, new_in, old_device};
 use hill_store::Refusal;
-use sector_disk::{FuseDevice, FuseKind, MemoryDevice};
+use sector_disk::{FuseKind, MemoryDevice};
 use std::alloc::Global;
 use std::process::Abort;
-use tests_stores::{migrate, moved, tried};
+use tests_fixtures::Refusing;
+use tests_stores::{SECTORS, failing, lasting, migrate, moved, tried, within};
 
 /// Calls of the new device: a sync, two headers, four sectors for each of two slots, a sync, the header in sector 1, and a sync.
 const CALLS: u64 = 14;
@@ -21,21 +21,13 @@ fn due(calls: u64) -> (bool, bool) {
     }
 }
 
-/// The devices. The new one fails after `calls` calls.
-fn fused(
-    rt: &(impl Abort + AllocGlobal),
-    calls: u64,
-    kind: FuseKind,
-) -> (MemoryDevice<Global>, MemoryDevice<Global>) {
-    let new = FuseDevice::new(blank_in(rt, rt.alloc()), calls, kind);
-    let (old, new, fault) = tried(rt.alloc(), old_device(rt), new);
-    expect_fault(rt, fault, calls < CALLS);
-    (old, new.into_inner())
-}
-
 /// Whether a device holds the hill. It holds no other.
-fn holds_the_hill(rt: &(impl Abort + AllocGlobal), device: MemoryDevice<Global>) -> bool {
-    match hill_on(rt, device) {
+fn holds_the_hill<'m>(
+    rt: &impl Abort,
+    memory: &'m Refusing<Global>,
+    device: MemoryDevice<&'m Refusing<Global>>,
+) -> bool {
+    match hill_on(rt, memory, lasting(device)) {
         Some(store) => {
             expect_true_rows(rt, store);
             true
@@ -65,38 +57,41 @@ fn choice_of(kept: u32) -> [u32; 10] {
 }
 
 /// Every image of a device that stopped after `calls` calls holds what is due: each second one has the header.
-fn expect_images(rt: &(impl Abort + AllocGlobal), device: &MemoryDevice<Global>, calls: u64) {
+fn expect_images<'m>(
+    rt: &impl Abort,
+    memory: &'m Refusing<Global>,
+    device: &MemoryDevice<&'m Refusing<Global>>,
+    calls: u64,
+) {
     let (lost, kept) = due(calls);
     for image in 0..images_of(calls) {
-        let found = holds_the_hill(rt, image_of(rt, device, &choice_of(image)));
+        let left = image_of(rt, device, &choice_of(image));
+        let found = holds_the_hill(rt, memory, left);
         let due = if image % 2 == 0 { lost } else { kept };
-        expect_same(
-            rt,
-            &found,
-            &due,
-            format_args!("image {image} after {calls}"),
-        );
+        expect_same(rt, &(image, calls, found), &(image, calls, due), "an image");
     }
 }
 
 /// The old device still holds the hill, which can be moved to a blank one.
-fn expect_moves(
-    rt: &(impl Abort + AllocGlobal),
-    old: MemoryDevice<Global>,
-) -> MemoryDevice<Global> {
-    let moved = moved(rt.alloc(), old, blank_in(rt, rt.alloc()));
+fn expect_moves<'m>(
+    rt: &impl Abort,
+    memory: &'m Refusing<Global>,
+    old: MemoryDevice<&'m Refusing<Global>>,
+) -> MemoryDevice<&'m Refusing<Global>> {
+    let moved = moved(memory, lasting(old), new_in(rt, memory));
     let (old, store) = moved.expect(rt, "it is moved");
     expect_true_rows(rt, store);
-    old
+    within(old)
 }
 
 /// A new device holds the hill, or it can be moved to that device again.
-fn expect_goes_on(
-    rt: &(impl Abort + AllocGlobal),
-    old: MemoryDevice<Global>,
-    new: MemoryDevice<Global>,
+fn expect_goes_on<'m>(
+    rt: &impl Abort,
+    memory: &'m Refusing<Global>,
+    old: MemoryDevice<&'m Refusing<Global>>,
+    new: MemoryDevice<&'m Refusing<Global>>,
 ) {
-    match migrate(rt.alloc(), old, new) {
+    match migrate(memory, lasting(old), lasting(new)) {
         Ok((old, store)) => {
             drop(old);
             expect_the_rows(rt, store);
@@ -104,35 +99,39 @@ fn expect_goes_on(
         Err((old, new, fault)) => {
             drop(old);
             expect_same(rt, &fault.refusal, &Refusal::Occupied, "a hill");
-            assert!(rt; holds_the_hill(rt, new));
+            assert!(rt; holds_the_hill(rt, memory, within(new)));
         }
     }
 }
 
-/// What is left if the new device fails after it made `calls` calls.
-fn expect_left(
-    rt: &(impl Abort + AllocGlobal),
-    devices: (MemoryDevice<Global>, MemoryDevice<Global>),
-    calls: u64,
-) {
-    let (old, new) = devices;
-    expect_images(rt, &new, calls);
-    let old = expect_moves(rt, old);
-    expect_goes_on(rt, old, new);
+/// What is left if the new device fails so after `calls` calls, and `made` were made.
+fn expect_left(rt: &impl Abort, memory: &Refusing<Global>, calls: u64, kind: FuseKind, made: u64) {
+    let new = failing(blank_of(rt, memory, SECTORS), calls, kind);
+    let old = lasting(old_device(rt, memory));
+    let (old, new, fault) = tried(memory, old, new);
+    expect_fault(rt, fault, calls < CALLS);
+    let new = within(new);
+    expect_images(rt, memory, &new, made);
+    let old = expect_moves(rt, memory, within(old));
+    expect_goes_on(rt, memory, old, new);
 }
 
 #[test]
 fn a_stop_at_each_call(rt: HostRuntime) {
+    let memory = Refusing::new(rt.alloc());
     for calls in 0..=CALLS {
-        expect_left(&rt, fused(&rt, calls, FuseKind::Stop), calls);
+        expect_left(&rt, &memory, calls, FuseKind::Stop, calls);
     }
+    drop(memory);
 }
 
 /// The call that fails is lost, or it is made all the same.
 #[test]
 fn a_fault_at_each_call(rt: HostRuntime) {
+    let memory = Refusing::new(rt.alloc());
     for calls in 0..CALLS {
-        expect_left(&rt, fused(&rt, calls, FuseKind::FailLost), calls);
-        expect_left(&rt, fused(&rt, calls, FuseKind::FailKept), calls + 1);
+        expect_left(&rt, &memory, calls, FuseKind::FailLost, calls);
+        expect_left(&rt, &memory, calls, FuseKind::FailKept, calls + 1);
     }
+    drop(memory);
 }

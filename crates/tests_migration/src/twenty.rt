@@ -1,20 +1,18 @@
-//! A hill of twenty, with the results of all its pairs, that is moved to another device. `stops` has what a stop leaves of it.
+//! What a stop leaves of a hill of twenty, with the results of all its pairs, that is moved to another device.
 //!
 //! Twenty warriors that lose at once come, and two that stay where they are. These win each of their rounds but those against one another, and
 //! the two that came last fall. So the hill has entries 1 to 18 in slots 0 to 17, entry 21 in slot 20 and entry 22 in slot 19. Slot 18 and
 //! some places of results hold what was written of those that fell.
 
-use crate::expecting::{expect_rows, expect_same, expect_sector, expect_true};
-use crate::hills::{blank_of, content_of, created_on};
+use crate::expecting::{expect_same, expect_table, expect_true};
+use crate::hills::{blank_of, created_on, expect_fault, hill_on, image_of};
 use hill_store::{Reply, Store};
-use sector_disk::MemoryDevice;
+use sector_disk::{Device, FuseKind, MemoryDevice};
 use std::alloc::Global;
 use std::process::Abort;
-use tests_fixtures::small;
-use tests_stores::{Numbers, back, close, front, moved_from, narrowed, opened, row_at, submit};
+use tests_fixtures::{Refusing, small};
+use tests_stores::{Numbers, close, failing, lasting, moved, narrowed, submit, tried, within};
 use war_types::RawSettings;
-
-mod stops;
 
 /// Sectors that a hill of twenty needs: two headers, and four for each of twenty-one slots.
 const SECTORS: u32 = 86;
@@ -22,135 +20,175 @@ const SECTORS: u32 = 86;
 /// The settings of the hill.
 const TWENTY: RawSettings = small!(capacity: 20);
 
-/// The device on which they were submitted.
-fn written(rt: &(impl Abort + AllocGlobal)) -> MemoryDevice<Global> {
-    let mut store = created_on(rt, blank_of(rt, SECTORS), TWENTY);
+/// The table: entries, their points, and their ages. The two that stay have two ties with one another, and six points of each other one.
+/// Those that lose have three points of one another, and none of these.
+static ROWS: [Numbers; 20] = [
+    (21, 110, 1),
+    (22, 110, 0),
+    (1, 51, 21),
+    (2, 51, 20),
+    (3, 51, 19),
+    (4, 51, 18),
+    (5, 51, 17),
+    (6, 51, 16),
+    (7, 51, 15),
+    (8, 51, 14),
+    (9, 51, 13),
+    (10, 51, 12),
+    (11, 51, 11),
+    (12, 51, 10),
+    (13, 51, 9),
+    (14, 51, 8),
+    (15, 51, 7),
+    (16, 51, 6),
+    (17, 51, 5),
+    (18, 51, 4),
+];
+
+/// The warrior that is submitted as this entry stands on the hill.
+fn expect_placed<D: Device>(
+    rt: &impl Abort,
+    store: &mut Store<D, &Refusing<Global>>,
+    expected: u64,
+) {
+    let source: &[u8] = if expected <= 20 { b"DAT 0,0" } else { b"JMP 0" };
+    let found = match submit(store, source) {
+        Reply::Placed { entry, .. } => entry,
+        _ => 0,
+    };
+    expect_same(rt, &found, &expected, "an entry");
+}
+
+/// A device in the old format with the hill.
+fn old_device<'m>(
+    rt: &impl Abort,
+    memory: &'m Refusing<Global>,
+) -> MemoryDevice<&'m Refusing<Global>> {
+    let new = lasting(blank_of(rt, memory, SECTORS));
+    let mut store = created_on(rt, memory, new, TWENTY);
     for entry in 1..=22 {
         expect_placed(rt, &mut store, entry);
     }
-    close(store)
-}
-
-/// The warrior that is submitted as this entry stands on the hill.
-fn expect_placed(rt: &impl Abort, store: &mut Store<MemoryDevice<Global>, Global>, expected: u64) {
-    let source: &[u8] = if expected <= 20 { b"DAT 0,0" } else { b"JMP 0" };
-    let found = placed_as(submit(store, source));
-    expect_same(rt, &found, &Some(expected), "an entry");
-}
-
-/// The entry of a warrior that is placed.
-fn placed_as(reply: Reply) -> Option<u64> {
-    match reply {
-        Reply::Placed { entry, .. } => Some(entry),
-        _ => None,
-    }
-}
-
-/// The same in the old format.
-fn old_device(rt: &(impl Abort + AllocGlobal)) -> MemoryDevice<Global> {
-    let mut new = written(rt);
-    let old = narrowed(rt.alloc(), &mut new, 21).expect(rt, "it has room");
+    let mut new = within(close(store));
+    let old = narrowed(memory, &mut new, 21).expect(rt, "it has room");
     drop(new);
     old
 }
 
-/// A row of the table: the entry, its points, and its age. The two that stay have two ties with one another, and six points of each other one.
-/// Those that lose have three points of one another, and none of these.
-fn row(place: u64) -> Numbers {
-    match place {
-        0 => (21, 18 * 6 + 2, 1),
-        1 => (22, 18 * 6 + 2, 0),
-        _ => (
-            place.saturating_sub(1),
-            17 * 3,
-            23_u64.saturating_sub(place),
-        ),
-    }
-}
-
-/// The table is that of the hill.
-fn expect_table(rt: &impl Abort, store: &Store<MemoryDevice<Global>, Global>) {
-    expect_rows(rt, store, 20);
-    for place in 0..20 {
-        let found = row_at(store, place);
-        let due = Some(row(place as u64));
-        expect_same(rt, &found, &due, format_args!("place {place}"));
-    }
-}
-
-/// The table is that of the hill, and its results are those of the matches.
-fn expect_the_hill(rt: &impl Abort, store: &mut Store<MemoryDevice<Global>, Global>) {
-    expect_true(rt, store);
-    expect_table(rt, store);
-}
-
-/// The store has the hill. It is dropped.
-fn expect_in(rt: &impl Abort, mut store: Store<MemoryDevice<Global>, Global>) {
-    expect_the_hill(rt, &mut store);
+/// The table of the store is that of the hill, and its results are those of the matches. It is dropped.
+fn expect_in<D: Device + Drop>(rt: &impl Abort, mut store: Store<D, &Refusing<Global>>) {
+    expect_true(rt, &mut store);
+    expect_table(rt, &store, &ROWS);
     drop(store);
 }
 
-/// Puts a byte into a sector.
-fn set(content: &mut [u8; 512], at: usize, byte: u8) {
-    if let Some(place) = content.get_mut(at) {
-        *place = byte;
+/// Calls that move it: a sync, two headers, four sectors for each of twenty slots, a sync, a header and a sync.
+const CALLS: u64 = 86;
+
+/// An image of the device holds the hill, or none.
+fn expect_image<'m>(
+    rt: &impl Abort,
+    memory: &'m Refusing<Global>,
+    device: &MemoryDevice<&'m Refusing<Global>>,
+    choice: &[u32; 86],
+    holds: bool,
+) {
+    let image = lasting(image_of(rt, device, choice));
+    let found = match hill_on(rt, memory, image) {
+        Some(store) => {
+            expect_in(rt, store);
+            true
+        }
+        None => false,
+    };
+    expect_same(rt, &found, &holds, "the hill");
+}
+
+/// Whether the images hold the hill if the header is lost, and if it is kept.
+fn due(calls: u64) -> (bool, bool) {
+    match calls {
+        0..=84 => (false, false),
+        85 => (false, true),
+        _ => (true, true),
     }
 }
 
-/// The last sector of a slot: the rounds that the warriors in the slots before `older` won of their matches, and those that this one won.
-fn last_sector(older: u8, older_wins: u8, younger_wins: u8) -> [u8; 512] {
-    let mut content = back();
-    for place in 0..usize::from(older) {
-        set(&mut content, 389 + 4 * place, older_wins);
-        set(&mut content, 391 + 4 * place, younger_wins);
-    }
-    content
-}
+/// Choices of each sector: all lost, or all kept.
+static LOST: [u32; 86] = [0; 86];
 
-/// The first sector of a slot of the moved hill: `DAT.F $0, $0`, or `JMP.B $0, $0`.
-fn first_of(slot: u8) -> [u8; 512] {
-    match slot {
-        0..=17 => front([0, 4, 1, 1, 0, 0, 0, 0]),
-        19 | 20 => front([7, 1, 1, 1, 0, 0, 0, 0]),
-        _ => [0; 512],
+static KEPT: [u32; 86] = [1; 86];
+
+/// The sectors of the slots, in the order in which they are written: that of the entries.
+fn written_at(place: u64) -> usize {
+    match place {
+        0..=71 => 2 + place as usize,
+        72..=75 => 10 + place as usize,
+        _ => 78 + (place % 4) as usize,
     }
 }
 
-/// The last sector of a slot of the moved hill, with the results against older warriors on the hill.
-fn last_of(slot: u8) -> [u8; 512] {
-    match slot {
-        0..=17 => last_sector(slot, 1, 1),
-        19 | 20 => last_sector(18, 0, 2),
-        _ => [0; 512],
+/// A choice that is another for one sector.
+fn choice_with(choice: &[u32; 86], n: usize, other: u32) -> [u32; 86] {
+    let mut choice = *choice;
+    if let Some(place) = choice.get_mut(n) {
+        *place = other;
+    }
+    choice
+}
+
+/// How many sectors of slots are written and not synced after `calls` calls.
+fn unsynced(calls: u64) -> u64 {
+    match calls {
+        4..=83 => calls - 3,
+        _ => 0,
     }
 }
 
-fn expect_slot(rt: &impl Abort, device: &mut MemoryDevice<Global>, slot: u8) {
-    let from = 2 + 4 * u32::from(slot);
-    expect_sector(rt, device, from, &first_of(slot));
-    expect_sector(rt, device, from + 1, &[0; 512]);
-    expect_sector(rt, device, from + 2, &[0; 512]);
-    expect_sector(rt, device, from + 3, &last_of(slot));
+/// All that was not synced is lost, all is kept, and of the sectors of slots that were not synced each alone is kept or lost: then there is
+/// no header.
+fn expect_images<'m>(
+    rt: &impl Abort,
+    memory: &'m Refusing<Global>,
+    device: &MemoryDevice<&'m Refusing<Global>>,
+    calls: u64,
+) {
+    let (lost, kept) = due(calls);
+    expect_image(rt, memory, device, &LOST, lost);
+    expect_image(rt, memory, device, &KEPT, kept);
+    for place in 0..unsynced(calls) {
+        let n = written_at(place);
+        expect_image(rt, memory, device, &choice_with(&LOST, n, 1), false);
+        expect_image(rt, memory, device, &choice_with(&KEPT, n, 0), false);
+    }
 }
 
-/// Twenty-two headers were written after the first, so the last is in sector 0. It is moved as it is.
-fn expect_headers(rt: &(impl Abort + AllocGlobal), new: &mut MemoryDevice<Global>) {
-    let mut written = written(rt);
-    let header = content_of(rt, &mut written, 0);
-    drop(written);
-    expect_sector(rt, new, 0, &header);
-    expect_sector(rt, new, 1, &[0; 512]);
+/// The hill is moved to a device that stops after `calls` calls, and to a blank one then. The old device comes back.
+fn expect_stop<'m>(
+    rt: &impl Abort,
+    memory: &'m Refusing<Global>,
+    old: MemoryDevice<&'m Refusing<Global>>,
+    calls: u64,
+) -> MemoryDevice<&'m Refusing<Global>> {
+    let new = failing(blank_of(rt, memory, SECTORS), calls, FuseKind::Stop);
+    let (old, new, fault) = tried(memory, lasting(old), new);
+    expect_fault(rt, fault, calls < CALLS);
+    let new = within(new);
+    expect_images(rt, memory, &new, calls);
+    drop(new);
+    let moved = moved(memory, old, lasting(blank_of(rt, memory, SECTORS)));
+    let (old, store) = moved.expect(rt, "it is moved");
+    expect_in(rt, store);
+    within(old)
 }
 
+/// The old device keeps the hill after each stop, and it can be moved to a blank one.
 #[test]
-fn a_full_hill_is_moved(rt: HostRuntime) {
-    let moved = moved_from(rt.alloc(), old_device(&rt), blank_of(&rt, SECTORS));
-    let mut store = moved.expect(&rt, "it is moved");
-    expect_the_hill(&rt, &mut store);
-    let mut new = close(store);
-    expect_headers(&rt, &mut new);
-    for slot in 0..21 {
-        expect_slot(&rt, &mut new, slot);
+fn a_stop_at_each_call(rt: HostRuntime) {
+    let memory = Refusing::new(rt.alloc());
+    let mut old = old_device(&rt, &memory);
+    for calls in 0..=CALLS {
+        old = expect_stop(&rt, &memory, old, calls);
     }
-    expect_in(&rt, opened(rt.alloc(), new).expect(&rt, "it opens"));
+    drop(old);
+    drop(memory);
 }

@@ -1,18 +1,24 @@
 //! What a store is expected to answer.
 
-use crate::hills::{blank_in, created_on, opened_on};
+use crate::hills::{created_on, new_in, opened_on};
 use hill_store::{Reply, Store};
 use sector_disk::{Device, MemoryDevice};
 use std::alloc::{Allocator, Global};
 use std::fmt::Debug;
 use std::process::Abort;
+use tests_fixtures::Refusing;
 use tests_stores::{
-    Answered, Counting, Numbers, audit, calls_of, close, count_rows, other_row, submit, submit_all,
+    Answered, Counting, Numbers, close, count_rows, other_row, submit, submit_all, within,
 };
 
 /// What was found is what is due. If it isn't, the note says what was looked at.
 pub(crate) fn expect_same<T: PartialEq + Debug>(rt: &impl Abort, found: &T, due: &T, note: &str) {
     assert!(rt; *found == *due, "{note}: {found:?}, not {due:?}");
+}
+
+/// `count` growths were refused.
+pub(crate) fn expect_refusals(rt: &impl Abort, memory: &Refusing<Global>, count: u64) {
+    expect_same(rt, &memory.refused(), &count, "growths refused");
 }
 
 /// The store answers this to a source.
@@ -25,34 +31,27 @@ pub(crate) fn expect_reply<D: Device, A: Allocator + Copy>(
     expect_same(rt, &submit(store, source), &reply, "a reply");
 }
 
-/// The store answers this to sources, one after the other.
-pub(crate) fn expect_answers<D: Device, A: Allocator + Copy>(
-    rt: &impl Abort,
-    store: &mut Store<D, A>,
-    answers: &[Answered],
-) {
-    for (source, reply) in answers {
-        expect_reply(rt, store, *source, *reply);
-    }
-}
-
 /// The device of a hill of two that was created on it, and answered this.
-pub(crate) fn answered_on<D: Device + Drop>(
-    rt: &(impl Abort + AllocGlobal),
+pub(crate) fn answered_on<D: Device + Drop, A: Allocator + Copy>(
+    rt: &impl Abort,
+    alloc: A,
     device: D,
     answers: &[Answered],
 ) -> D {
-    let mut store = created_on(rt, rt.alloc(), device);
-    expect_answers(rt, &mut store, answers);
+    let mut store = created_on(rt, alloc, device);
+    for (source, reply) in answers {
+        expect_reply(rt, &mut store, *source, *reply);
+    }
     close(store)
 }
 
-/// The same, of a device that was blank.
-pub(crate) fn answered(
-    rt: &(impl Abort + AllocGlobal),
+/// The same, of a device that was blank, as what it has in memory.
+pub(crate) fn answered<'m>(
+    rt: &impl Abort,
+    memory: &'m Refusing<Global>,
     answers: &[Answered],
-) -> MemoryDevice<Global> {
-    answered_on(rt, blank_in(rt, rt.alloc()), answers)
+) -> MemoryDevice<&'m Refusing<Global>> {
+    within(answered_on(rt, memory, new_in(rt, memory), answers))
 }
 
 /// The replies of the store to a list of sources.
@@ -96,29 +95,24 @@ pub(crate) fn expect_table<D: Device, A: Allocator + Copy>(
 }
 
 /// The hill that is opened on a device has `count` rows.
-pub(crate) fn expect_opened<D: Device + Drop>(
-    rt: &(impl Abort + AllocGlobal),
+pub(crate) fn expect_opened<D: Device + Drop, A: Allocator + Copy>(
+    rt: &impl Abort,
+    alloc: A,
     device: D,
     count: usize,
 ) {
-    let store = opened_on(rt, device);
+    let store = opened_on(rt, alloc, device);
     expect_rows(rt, &store, count);
     drop(store);
-}
-
-/// The results that a store keeps are those of the fights.
-pub(crate) fn expect_true<D: Device, A: Allocator + Copy>(
-    rt: &impl Abort,
-    store: &mut Store<D, A>,
-) {
-    expect_same(rt, &audit(store), &true, "an audit");
 }
 
 /// The device of this store was asked for `calls` calls.
 pub(crate) fn expect_calls<D: Device + Drop, A: Allocator + Copy>(
     rt: &impl Abort,
-    store: Store<Counting<D>, A>,
-    calls: u32,
+    store: Store<Counting<'_, D>, A>,
+    calls: u64,
 ) {
-    expect_same(rt, &calls_of(store), &calls, "calls");
+    let device = close(store);
+    expect_same(rt, &device.calls, &calls, "calls");
+    drop(device);
 }

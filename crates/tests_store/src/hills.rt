@@ -1,33 +1,40 @@
 //! Devices in memory, and hills of two on them, as the tests make them. What is to be done and isn't ends the test at once.
 
 use hill_store::Store;
-use sector_disk::{Device, FuseDevice, FuseKind, MemoryDevice};
+use sector_disk::{Device, FuseKind, MemoryDevice};
 use std::alloc::{Allocator, Global};
 use std::process::Abort;
-use tests_stores::{SMALL, blank, created, opened, settings_from};
+use tests_fixtures::Refusing;
+use tests_stores::{SMALL, Tried, blank, created, failing, lasting, opened, settings_from};
 use war_types::Settings;
 
-/// A blank device for a hill of two.
+/// A blank device in memory, for a hill of two.
 pub(crate) fn blank_in<A: Allocator + Copy>(rt: &impl Abort, alloc: A) -> MemoryDevice<A> {
     blank(alloc).expect(rt, "there is memory")
 }
 
+/// A blank device for a hill of two.
+pub(crate) fn new_in<'m>(rt: &impl Abort, memory: &'m Refusing<Global>) -> Tried<'m> {
+    lasting(blank_in(rt, memory))
+}
+
 /// A blank device for a hill of two that stops or fails after `calls` calls.
-pub(crate) fn blank_within(
-    rt: &(impl Abort + AllocGlobal),
+pub(crate) fn blank_within<'m>(
+    rt: &impl Abort,
+    memory: &'m Refusing<Global>,
     calls: u64,
     kind: FuseKind,
-) -> FuseDevice<MemoryDevice<Global>> {
-    FuseDevice::new(blank_in(rt, rt.alloc()), calls, kind)
+) -> Tried<'m> {
+    failing(blank_in(rt, memory), calls, kind)
 }
 
 /// What a device keeps that stops, if this is chosen of what it need not keep.
-pub(crate) fn image_of(
+pub(crate) fn image_of<'m>(
     rt: &impl Abort,
-    device: &MemoryDevice<Global>,
+    device: &MemoryDevice<&'m Refusing<Global>>,
     choice: &[u32],
-) -> MemoryDevice<Global> {
-    device.stopped(choice).expect(rt, "there is memory")
+) -> Tried<'m> {
+    lasting(device.stopped(choice).expect(rt, "there is memory"))
 }
 
 /// The settings of a hill of two.
@@ -45,9 +52,10 @@ pub(crate) fn created_on<D: Device + Drop, A: Allocator + Copy>(
 }
 
 /// The hill that a device holds.
-pub(crate) fn opened_on<D: Device + Drop>(
-    rt: &(impl Abort + AllocGlobal),
+pub(crate) fn opened_on<D: Device + Drop, A: Allocator + Copy>(
+    rt: &impl Abort,
+    alloc: A,
     device: D,
-) -> Store<D, Global> {
-    opened(rt.alloc(), device).expect(rt, "it opens")
+) -> Store<D, A> {
+    opened(alloc, device).expect(rt, "it opens")
 }

@@ -1,22 +1,28 @@
-//! Tests of the public calls of `hill_store`: a hill on a store.
+//! Tests of the public calls of `hill_store`: a hill on a device.
 //!
 //! No crate stands on this one, so that is proved once, without tests, and the tests are proved over it:
 //!
-//! - `stores`: a hill on a device, and `steps`: submissions in parts;
-//! - `written`: the bytes that a store wrote, and `lives`: a life of it;
-//! - `sweeps`: a stop and a fault at each call of its device;
-//! - `audits`: the results that it keeps.
+//! - `calls`: what the calls answer and ask of their device, and `steps`: submissions in parts;
+//! - `sweeps`: a stop and a fault at each call of the device, and `lives`: a life of one;
+//! - `copies`: a copy on another device, and sources that are tried;
+//! - `growths`: what becomes of a hill if a growth of memory is refused, and which calls need none.
 //!
 //! `hills` makes hills and their devices, and `expecting` has what tests expect of a store, which they call by
-//! `tests_stores`. What they expect was counted by hand. A test here must not show what a contract could say instead.
-//! `bench/images` compares headers and slots, `tests_look` tries copies and growths of memory that are refused, and
-//! `tests_migration` hills that are moved.
+//! `tests_stores`. All stores are on one type of device, with one type of allocator. What is expected was counted by hand.
+//!
+//! A test here must not show what a contract could say instead, nor what the built program shows: the bytes that a store
+//! writes, what it answers to sources, and results that a file keeps are in `bench/transcripts`. `bench/images` compares
+//! headers and slots, and `tests_migration` tries hills that are moved or looked at.
 #![tactic(auto)]
 
 #[cfg(test)]
-mod audits;
+mod calls;
+#[cfg(test)]
+mod copies;
 #[cfg(test)]
 mod expecting;
+#[cfg(test)]
+mod growths;
 #[cfg(test)]
 mod hills;
 #[cfg(test)]
@@ -24,8 +30,4 @@ mod lives;
 #[cfg(test)]
 mod steps;
 #[cfg(test)]
-mod stores;
-#[cfg(test)]
 mod sweeps;
-#[cfg(test)]
-mod written;

@@ -1,23 +1,23 @@
-//! Submissions in parts: tables between two steps, one that is given up, and growths that are refused where one is begun.
+//! Submissions in parts: tables between two steps, one that is given up, and one whose steps and end need no memory.
 
 ghost use Rattle.std.specs.Prelude.{◌≡◌};
 ghost use Rattle.{koth_hill.specs.Kept.{verdict_kept}, hill_store.specs.Submission.{IsSubmitting}};
 
 use crate::expecting::{expect_calls, expect_reply, expect_same, expect_table};
-use crate::hills::{blank_in, created_on};
+use crate::hills::{created_on, new_in};
 use hill_store::{Reply, Store, Submission};
 use koth_hill::Verdict;
 use sector_disk::Device;
 use std::alloc::{Allocator, Global};
 use std::process::Abort;
 use tests_fixtures::Refusing;
-use tests_stores::{FIRST, Numbers, SECOND, counted};
+use tests_stores::{Counting, FIRST, Numbers, SECOND};
 
 /// The table of a hill of one warrior.
-const ONE_ROW: [Numbers; 1] = [(1, 0, 0)];
+static ONE_ROW: [Numbers; 1] = [(1, 0, 0)];
 
 /// The table with a second one, which has two ties with it.
-const TWO_ROWS: [Numbers; 2] = [(1, 2, 1), (2, 2, 0)];
+static TWO_ROWS: [Numbers; 2] = [(1, 2, 1), (2, 2, 0)];
 
 /// The submission of a source that gives a warrior.
 fn begun<D: Device, A: Allocator + Copy>(
@@ -82,8 +82,12 @@ fn expect_judged<D: Device, A: Allocator + Copy>(
 }
 
 /// One that is given up leaves the table and the device as they were, and the next one is judged and placed as if it were the first.
-fn expect_parts<D: Device + Drop>(rt: &(impl Abort + AllocGlobal), device: D) {
-    let mut store = created_on(rt, rt.alloc(), counted(device));
+fn expect_parts<D: Device + Drop>(
+    rt: &impl Abort,
+    memory: &Refusing<Global>,
+    device: Counting<'_, D>,
+) {
+    let mut store = created_on(rt, memory, device);
     expect_reply(rt, &mut store, b"MOV 0,1", FIRST);
     given_up(rt, &mut store, b"DAT 0,0");
     expect_judged(rt, &mut store, b"JMP 0", &ONE_ROW, SECOND);
@@ -93,44 +97,12 @@ fn expect_parts<D: Device + Drop>(rt: &(impl Abort + AllocGlobal), device: D) {
 
 #[test]
 fn a_submission_in_parts(rt: HostRuntime) {
-    expect_parts(&rt, blank_in(&rt, rt.alloc()));
+    let memory = Refusing::new(rt.alloc());
+    expect_parts(&rt, &memory, new_in(&rt, &memory));
+    drop(memory);
 }
 
-/// What a source is answered at once, if it is.
-fn reply_at_once<D: Device, A: Allocator + Copy>(store: &Store<D, A>) -> Option<Reply> {
-    match store.begin(b"MOV 0,1", None) {
-        Some(Err(reply)) => Some(reply),
-        Some(Ok(_)) | None => None,
-    }
-}
-
-/// What a source is answered at once, if growth `k` is refused, and how many growths were refused.
-fn expect_begun<D: Device>(
-    rt: &impl Abort,
-    memory: &Refusing<Global>,
-    store: &Store<D, &Refusing<Global>>,
-    k: u64,
-    due: (Option<Reply>, u64),
-) {
-    memory.refuse(k, 1);
-    let found = (reply_at_once(store), memory.refused());
-    expect_same(rt, &found, &due, "what is begun");
-}
-
-/// The same ten growths as of a submission in one go.
-fn expect_ten<D: Device>(
-    rt: &impl Abort,
-    memory: &Refusing<Global>,
-    store: &Store<D, &Refusing<Global>>,
-) {
-    for k in 0..10 {
-        expect_begun(rt, memory, store, k, (Some(Reply::Memory), 1));
-    }
-    expect_begun(rt, memory, store, 10, (None, 0));
-    memory.refuse(0, 0);
-}
-
-/// The steps and the end need none.
+/// The steps and the end of a submission that is begun need no memory.
 fn expect_first<D: Device>(
     rt: &impl Abort,
     memory: &Refusing<Global>,
@@ -146,17 +118,14 @@ fn expect_first<D: Device>(
     expect_same(rt, &found, &(FIRST, 0), "without memory");
 }
 
-/// The growths of a submission to a new hill on this device.
-fn expect_growths<D: Device + Drop>(rt: &impl Abort, memory: &Refusing<Global>, device: D) {
-    let mut store = created_on(rt, memory, device);
-    expect_ten(rt, memory, &store);
-    expect_first(rt, memory, &mut store);
-    drop(store);
-}
-
+/// The device has its memory from elsewhere. What is begun takes memory: `growths` refuses it.
 #[test]
-fn each_growth_of_a_submission_that_is_begun(rt: HostRuntime) {
+fn steps_without_memory(rt: HostRuntime) {
     let memory = Refusing::new(rt.alloc());
-    expect_growths(&rt, &memory, blank_in(&rt, rt.alloc()));
+    let disk = Refusing::new(rt.alloc());
+    let mut store = created_on(&rt, &memory, new_in(&rt, &disk));
+    expect_first(&rt, &memory, &mut store);
+    drop(store);
+    drop(disk);
     drop(memory);
 }

@@ -3,11 +3,13 @@
 use crate::expecting::{expect_replies, expect_same, replies_of};
 use crate::hills::{blank_within, created_on, image_of, opened_on, small};
 use hill_store::{Refusal, Reply, Store};
-use sector_disk::{Device, FuseKind, MemoryDevice};
+use sector_disk::{Device, FuseKind};
 use std::alloc::Global;
 use std::process::Abort;
+use tests_fixtures::Refusing;
 use tests_stores::{
-    FIRST, SECTORS, SOURCES, close, create, fell, numbers_at, open, placed, submit,
+    FIRST, Numbers, SECTORS, SOURCES, Tried, close, create, fell, numbers_at, open, placed, submit,
+    within,
 };
 
 /// Numbers in a choice: one for each sector.
@@ -17,25 +19,28 @@ const CHOICES: usize = SECTORS as usize;
 const KEPT: u32 = 9;
 
 /// A choice that keeps all that was written.
-const ALL: [u32; CHOICES] = [KEPT; CHOICES];
+static ALL: [u32; CHOICES] = [KEPT; CHOICES];
 
-/// What an image opens to: the entries of its rows, 0 where there is none, and the entry that comes next, or why it opens to no hill.
-type Opens = Result<[u64; 3], Refusal>;
+/// What an image opens to: its rows, `NONE` where there is none, and the entry that comes next, or why it opens to no hill.
+type Opens = Result<(Numbers, Numbers, u64), Refusal>;
+
+/// No row.
+const NONE: Numbers = (0, 0, 0);
 
 /// What is due before a hill stands there.
 const NO_HILL: Opens = Err(Refusal::NotAHill);
 
 /// What is due of a hill without warriors.
-const NOBODY: Opens = Ok([0, 0, 1]);
+const NOBODY: Opens = Ok((NONE, NONE, 1));
 
 /// What is due of a hill of one warrior.
-const ONE: Opens = Ok([1, 0, 2]);
+const ONE: Opens = Ok(((1, 0, 0), NONE, 2));
 
-/// What is due of a hill of two.
-const TWO: Opens = Ok([1, 2, 3]);
+/// What is due of a hill of two: both have two points, and the one that came first is one older.
+const TWO: Opens = Ok(((1, 2, 1), (2, 2, 0), 3));
 
 /// What is due of a hill of two on which a third fell.
-const FALLEN: Opens = Ok([1, 2, 4]);
+const FALLEN: Opens = Ok(((1, 2, 1), (2, 2, 0), 4));
 
 /// What is due if the device stops after `calls` calls: without the header that is written and not synced, and with it. Counted by
 /// hand from the order of the calls. A creation is a sync, two reads, the header and a sync. Each warrior that is placed is the four sectors
@@ -64,14 +69,9 @@ fn due_with(n: usize, calls: u64) -> Opens {
     if n == header { kept } else { lost }
 }
 
-/// The device within a fuse of `calls` calls, after a creation and the four submissions.
-fn stopped_behind(rt: &(impl Abort + AllocGlobal), calls: u64) -> MemoryDevice<Global> {
-    submitted_on(rt, blank_within(rt, calls, FuseKind::Stop)).into_inner()
-}
-
-/// The same device, after a creation and the four submissions.
-fn submitted_on<D: Device + Drop>(rt: &(impl Abort + AllocGlobal), device: D) -> D {
-    match create(rt.alloc(), device, small(rt)) {
+/// The device, after a creation and the four submissions.
+fn submitted_on<D: Device + Drop>(rt: &impl Abort, memory: &Refusing<Global>, device: D) -> D {
+    match create(memory, device, small(rt)) {
         Ok(mut store) => {
             drop(replies_of(rt, &mut store, &SOURCES));
             close(store)
@@ -81,8 +81,8 @@ fn submitted_on<D: Device + Drop>(rt: &(impl Abort + AllocGlobal), device: D) ->
 }
 
 /// What a device opens to.
-fn opens_to<D: Device + Drop>(rt: &(impl Abort + AllocGlobal), device: D) -> Opens {
-    match open(rt.alloc(), device) {
+fn opens_to<D: Device + Drop>(rt: &impl Abort, memory: &Refusing<Global>, device: D) -> Opens {
+    match open(memory, device) {
         Ok(store) => Ok(hill_of(rt, store)),
         Err((device, refusal)) => {
             drop(device);
@@ -92,11 +92,14 @@ fn opens_to<D: Device + Drop>(rt: &(impl Abort + AllocGlobal), device: D) -> Ope
 }
 
 /// The hill of a store, which is dropped. The entry that comes next is that of a warrior which is submitted.
-fn hill_of<D: Device + Drop>(rt: &impl Abort, mut store: Store<D, Global>) -> [u64; 3] {
-    let [first, second] = entries(rt, &store);
+fn hill_of<D: Device + Drop>(
+    rt: &impl Abort,
+    mut store: Store<D, &Refusing<Global>>,
+) -> (Numbers, Numbers, u64) {
+    let (first, second) = rows_of(rt, &store);
     let reply = submit(&mut store, b"DAT 0,0");
     drop(store);
-    [first, second, entry_of(rt, reply)]
+    (first, second, entry_of(rt, reply))
 }
 
 /// The entry that a warrior was counted as.
@@ -108,31 +111,32 @@ fn entry_of(rt: &impl Abort, reply: Reply) -> u64 {
     .expect(rt, "a warrior is counted")
 }
 
-/// The entries of the two rows of a hill.
-fn entries<D: Device>(rt: &impl Abort, store: &Store<D, Global>) -> [u64; 2] {
-    [entry_at(rt, store, 0), entry_at(rt, store, 1)]
+/// The two rows of a hill.
+fn rows_of<D: Device>(rt: &impl Abort, store: &Store<D, &Refusing<Global>>) -> (Numbers, Numbers) {
+    (row_at(rt, store, 0), row_at(rt, store, 1))
 }
 
-fn entry_at<D: Device>(rt: &impl Abort, store: &Store<D, Global>, place: usize) -> u64 {
+fn row_at<D: Device>(
+    rt: &impl Abort,
+    store: &Store<D, &Refusing<Global>>,
+    place: usize,
+) -> Numbers {
     match numbers_at(store, place).expect(rt, "there is memory") {
-        Some((entry, _, _)) => entry,
-        None => 0,
+        Some(row) => row,
+        None => NONE,
     }
 }
 
 /// An image of a device that stopped after `calls` calls opens to what is due.
 fn expect_image(
-    rt: &(impl Abort + AllocGlobal),
-    device: &MemoryDevice<Global>,
-    choice: &[u32],
+    rt: &impl Abort,
+    memory: &Refusing<Global>,
+    device: Tried<'_>,
     expected: Opens,
     calls: u64,
 ) {
-    let found = opens_to(rt, image_of(rt, device, choice));
-    assert!(rt;
-        found == expected,
-        "{choice:?} kept after {calls}: {found:?}, not {expected:?}"
-    );
+    let found = opens_to(rt, memory, device);
+    expect_same(rt, &(calls, found), &(calls, expected), "an image");
 }
 
 /// A choice that keeps what was written to one sector alone.
@@ -145,50 +149,63 @@ fn choice_of(n: usize) -> [u32; CHOICES] {
 }
 
 /// The images: all that was not synced is lost, all of it is kept, and each sector by itself is kept.
-fn expect_images(rt: &(impl Abort + AllocGlobal), calls: u64) {
-    let device = stopped_behind(rt, calls);
+fn expect_images(rt: &impl Abort, memory: &Refusing<Global>, calls: u64) {
+    let device = blank_within(rt, memory, calls, FuseKind::Stop);
+    let device = within(submitted_on(rt, memory, device));
     let (lost, kept) = due(calls);
-    expect_image(rt, &device, &[], lost, calls);
-    expect_image(rt, &device, &ALL, kept, calls);
+    expect_image(rt, memory, image_of(rt, &device, &[]), lost, calls);
+    expect_image(rt, memory, image_of(rt, &device, &ALL), kept, calls);
     for n in 0..CHOICES {
-        expect_image(rt, &device, &choice_of(n), due_with(n, calls), calls);
+        let image = image_of(rt, &device, &choice_of(n));
+        expect_image(rt, memory, image, due_with(n, calls), calls);
     }
     drop(device);
 }
 
 #[test]
 fn a_stop_at_each_call(rt: HostRuntime) {
+    let memory = Refusing::new(rt.alloc());
     for calls in 0..=21 {
-        expect_images(&rt, calls);
+        expect_images(&rt, &memory, calls);
     }
+    drop(memory);
 }
 
 /// What the list is answered if the device fails once, after 17 calls.
-const CUT_SHORT: [Reply; 2] = [FIRST, Reply::Disk];
+static CUT_SHORT: [Reply; 2] = [FIRST, Reply::Disk];
 
 /// A device that failed once, after 17 calls of the script.
-fn failed_once<D: Device + Drop>(rt: &(impl Abort + AllocGlobal), device: D) -> D {
-    let mut store = created_on(rt, rt.alloc(), device);
+fn failed_once<D: Device + Drop>(rt: &impl Abort, memory: &Refusing<Global>, device: D) -> D {
+    let mut store = created_on(rt, memory, device);
     expect_replies(rt, &mut store, &SOURCES, &CUT_SHORT);
     close(store)
 }
 
-/// The entries on the hill, once it is opened again after a fault of its device, and what `JMP 0` is answered there.
-fn answered_around_a_fault<D: Device + Drop>(
-    rt: &(impl Abort + AllocGlobal),
+/// The rows of the hill, once it is opened again after a fault of its device, and what `JMP 0` is answered there.
+fn expect_around_a_fault<D: Device + Drop>(
+    rt: &impl Abort,
+    memory: &Refusing<Global>,
     device: D,
-) -> ([u64; 2], Reply) {
-    let mut store = opened_on(rt, failed_once(rt, device));
-    let found = entries(rt, &store);
+    due: (Numbers, Reply),
+) {
+    let mut store = opened_on(rt, memory, failed_once(rt, memory, device));
+    let (first, second) = rows_of(rt, &store);
     let reply = submit(&mut store, b"JMP 0");
     drop(store);
-    (found, reply)
+    expect_same(
+        rt,
+        &(first.0, second, reply),
+        &(1, due.0, due.1),
+        "around a fault",
+    );
 }
 
 #[test]
 fn a_header_write_that_fails(rt: HostRuntime) {
-    let lost = answered_around_a_fault(&rt, blank_within(&rt, 17, FuseKind::FailLost));
-    expect_same(&rt, &lost, &([1, 0], placed!(2, 2, 2)), "lost");
-    let kept = answered_around_a_fault(&rt, blank_within(&rt, 17, FuseKind::FailKept));
-    expect_same(&rt, &kept, &([1, 2], fell!(3, 4)), "kept");
+    let memory = Refusing::new(rt.alloc());
+    let lost = blank_within(&rt, &memory, 17, FuseKind::FailLost);
+    expect_around_a_fault(&rt, &memory, lost, (NONE, placed!(2, 2, 2)));
+    let kept = blank_within(&rt, &memory, 17, FuseKind::FailKept);
+    expect_around_a_fault(&rt, &memory, kept, ((2, 2, 0), fell!(3, 4)));
+    drop(memory);
 }

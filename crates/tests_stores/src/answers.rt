@@ -29,27 +29,17 @@ pub const EMPTY: Reply = Reply::Refused(AsmFault {
     kind: AsmKind::Empty,
 });
 
+/// A warrior that stays on a hill alone.
+pub static ONE: [Answered; 1] = [(b"MOV 0,1", FIRST)];
+
+/// Two warriors.
+pub static TWO: [Answered; 2] = [(b"MOV 0,1", FIRST), (b"JMP 0", SECOND)];
+
 /// Three warriors, of which the third falls.
-pub const THREE: [Answered; 3] = [(b"MOV 0,1", FIRST), (b"JMP 0", SECOND), (b"DAT 0,0", THIRD)];
-
-/// The first of two warriors that lose at once.
-pub const LOSER: Answered = (b"DAT 0,0", FIRST);
-
-/// The other one: each of them wins a round.
-pub const OTHER_LOSER: Answered = (
-    b"DAT 0,0",
-    Reply::Placed {
-        entry: 2,
-        rank: 2,
-        score: 3,
-    },
-);
-
-/// Two warriors that lose at once, and win a round each.
-pub const LOSERS: [Answered; 2] = [LOSER, OTHER_LOSER];
+pub static THREE: [Answered; 3] = [(b"MOV 0,1", FIRST), (b"JMP 0", SECOND), (b"DAT 0,0", THIRD)];
 
 /// The sources of a list, of which the third is refused and the fourth falls.
-pub const SOURCES: [&[u8]; 4] = [b"MOV 0,1", b"JMP 0", b"", b"DAT 0,0"];
+pub static SOURCES: [&[u8]; 4] = [b"MOV 0,1", b"JMP 0", b"", b"DAT 0,0"];
 
 /// The replies to them.
-pub const REPLIES: [Reply; 4] = [FIRST, SECOND, EMPTY, THIRD];
+pub static REPLIES: [Reply; 4] = [FIRST, SECOND, EMPTY, THIRD];

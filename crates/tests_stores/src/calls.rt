@@ -1,6 +1,6 @@
 //! The calls of a store.
 
-use hill_store::{MigrateFault, Refusal, Reply, Store, Untrue};
+use hill_store::{MigrateFault, Refusal, Reply, Store};
 use koth_hill::Row;
 use sector_disk::Device;
 use std::alloc::{AllocError, Allocator};
@@ -50,6 +50,27 @@ pub fn submit_all<D: Device, A: Allocator + Copy>(
     store.submit_all(sources)
 }
 
+/// `Store::copy_to`.
+pub fn copy<D: Device, N: Device, A: Allocator>(
+    store: &Store<D, A>,
+    new: &mut N,
+) -> Result<(), Refusal> {
+    store.copy_to(new)
+}
+
+/// The reply to a source that is tried, if there is one.
+pub fn tried_reply<D: Device, A: Allocator + Copy>(
+    store: &mut Store<D, A>,
+    source: &[u8],
+    steps: Option<u64>,
+) -> Option<Reply> {
+    match store.try_source(source, steps) {
+        Some(Ok(verdict)) => Some(Reply::judged(&verdict)),
+        Some(Err(reply)) => Some(reply),
+        None => None,
+    }
+}
+
 /// `Store::rows`.
 pub(crate) fn rows_of<D: Device, A: Allocator + Copy>(
     store: &Store<D, A>,
@@ -60,11 +81,6 @@ pub(crate) fn rows_of<D: Device, A: Allocator + Copy>(
 /// `Store::audit`.
 pub fn audit<D: Device, A: Allocator + Copy>(store: &mut Store<D, A>) -> bool {
     store.audit()
-}
-
-/// `Store::first_untrue`.
-pub fn first_untrue<D: Device, A: Allocator + Copy>(store: &mut Store<D, A>) -> Option<Untrue> {
-    store.first_untrue()
 }
 
 /// `Store::close`.

@@ -58,20 +58,6 @@ pub fn opened<D: Device + Drop, A: Allocator + Copy>(alloc: A, device: D) -> Opt
     }
 }
 
-/// The device and why no hill is opened on it, if none is.
-pub fn unopened<D: Device + Drop, A: Allocator + Copy>(
-    alloc: A,
-    device: D,
-) -> Option<(D, Refusal)> {
-    match open(alloc, device) {
-        Ok(store) => {
-            drop(store);
-            None
-        }
-        Err(refused) => Some(refused),
-    }
-}
-
 /// Why no hill is opened on a device, if none is.
 pub fn refusal_to_open<D: Device + Drop, A: Allocator + Copy>(
     alloc: A,

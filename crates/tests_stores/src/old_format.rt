@@ -6,14 +6,14 @@
 use crate::sectors::{put, sector};
 use hill_bytes::{decode_header, encode_old_header};
 use sector_disk::{Fault, MemoryDevice};
-use std::alloc::{AllocError, Global};
+use std::alloc::{AllocError, Allocator};
 
 /// The device in the old format that holds what this one does in its first `slots` slots, if that has room for it.
-pub fn narrowed(
-    alloc: Global,
-    new: &mut MemoryDevice<Global>,
+pub fn narrowed<A: Allocator + Copy>(
+    alloc: A,
+    new: &mut MemoryDevice<A>,
     slots: u8,
-) -> Option<MemoryDevice<Global>> {
+) -> Option<MemoryDevice<A>> {
     match MemoryDevice::new(alloc, 2 + 2 * u32::from(slots)) {
         Ok(mut old) => {
             let is_narrowed = narrow(new, &mut old, slots).is_ok();
@@ -27,9 +27,9 @@ pub fn narrowed(
     }
 }
 
-fn narrow(
-    new: &mut MemoryDevice<Global>,
-    old: &mut MemoryDevice<Global>,
+fn narrow<A: Allocator>(
+    new: &mut MemoryDevice<A>,
+    old: &mut MemoryDevice<A>,
     slots: u8,
 ) -> Result<(), Fault> {
     narrow_header(new, old, 0)?;
@@ -41,9 +41,9 @@ fn narrow(
 }
 
 /// The header in this sector, if there is one.
-fn narrow_header(
-    new: &mut MemoryDevice<Global>,
-    old: &mut MemoryDevice<Global>,
+fn narrow_header<A: Allocator>(
+    new: &mut MemoryDevice<A>,
+    old: &mut MemoryDevice<A>,
     n: u32,
 ) -> Result<(), Fault> {
     match narrowed_header(&sector(new, n)?)? {
@@ -63,9 +63,9 @@ fn narrowed_header(content: &[u8; 512]) -> Result<Option<[u8; 512]>, Fault> {
     }
 }
 
-fn narrow_slot(
-    new: &mut MemoryDevice<Global>,
-    old: &mut MemoryDevice<Global>,
+fn narrow_slot<A: Allocator>(
+    new: &mut MemoryDevice<A>,
+    old: &mut MemoryDevice<A>,
     slot: u8,
 ) -> Result<(), Fault> {
     let from = 2 + 4 * u32::from(slot);

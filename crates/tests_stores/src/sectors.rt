@@ -1,10 +1,10 @@
 //! The bytes in the sectors of a device.
 
 use sector_disk::{Device, Fault, MemoryDevice};
-use std::alloc::Global;
+use std::alloc::Allocator;
 
 /// What a device reads at one of its sectors.
-pub fn sector(device: &mut MemoryDevice<Global>, n: u32) -> Result<[u8; 512], Fault> {
+pub fn sector<A: Allocator>(device: &mut MemoryDevice<A>, n: u32) -> Result<[u8; 512], Fault> {
     if n >= device.sectors() {
         return Err(Fault);
     }
@@ -14,8 +14,8 @@ pub fn sector(device: &mut MemoryDevice<Global>, n: u32) -> Result<[u8; 512], Fa
 }
 
 /// Whether a device reads this at one of its sectors.
-pub fn holds(
-    device: &mut MemoryDevice<Global>,
+pub fn holds<A: Allocator>(
+    device: &mut MemoryDevice<A>,
     n: u32,
     content: &[u8; 512],
 ) -> Result<bool, Fault> {
@@ -23,7 +23,11 @@ pub fn holds(
 }
 
 /// Puts a content into one of a device's sectors.
-pub fn put(device: &mut MemoryDevice<Global>, n: u32, content: &[u8; 512]) -> Result<(), Fault> {
+pub fn put<A: Allocator>(
+    device: &mut MemoryDevice<A>,
+    n: u32,
+    content: &[u8; 512],
+) -> Result<(), Fault> {
     if n >= device.sectors() {
         return Err(Fault);
     }
@@ -32,8 +36,8 @@ pub fn put(device: &mut MemoryDevice<Global>, n: u32, content: &[u8; 512]) -> Re
 }
 
 /// Puts a byte into one of a device's sectors, and leaves the others as they are.
-pub fn set_byte(
-    device: &mut MemoryDevice<Global>,
+pub fn set_byte<A: Allocator>(
+    device: &mut MemoryDevice<A>,
     n: u32,
     at: usize,
     byte: u8,
@@ -52,19 +56,5 @@ pub fn with_zeros(begins: &[u8]) -> [u8; 512] {
     for (place, byte) in content.iter_mut().zip(begins) {
         *place = *byte;
     }
-    content
-}
-
-/// The first sector of a slot begins with the code, one instruction here.
-pub fn front(instruction: [u8; 8]) -> [u8; 512] {
-    with_zeros(instruction.as_slice())
-}
-
-/// The last sector of a slot: the length 1, the start 0, the name and the author, and no round that anybody won.
-pub fn back() -> [u8; 512] {
-    let mut content = [0; 512];
-    content[289] = 1;
-    content[292..299].copy_from_slice(b"Unnamed");
-    content[340..349].copy_from_slice(b"Anonymous");
     content
 }

@@ -1,27 +1,14 @@
-//! Files that are looked at.
+//! A file that is looked at, and cut meanwhile. What is missing or no file is shown by `bench/transcripts`.
 
-use hill_file::OpenFault;
 use hill_look::{FileSource, Source};
 use sector_disk::Fault;
 use std::fs;
 use std::fs::File;
-use std::io::ErrorKind;
 use std::process::Abort;
 use std::rt::Files;
 
 /// The file that is looked at.
 const PATH: &str = "looked.bytes";
-
-/// Why there is no source over what is at this path.
-fn fault<R: Files<File = File>>(rt: &R, path: &str) -> Option<OpenFault> {
-    match FileSource::open(rt, path) {
-        Ok(source) => {
-            drop(source);
-            None
-        }
-        Err(fault) => Some(fault),
-    }
-}
 
 /// Writes two sectors and a half: of sixes, and then of sevens.
 fn put(rt: &(impl Abort + Files<File = File>)) {
@@ -51,21 +38,4 @@ fn a_file_that_is_read(rt: HostRuntime) {
     assert_eq!(&rt; source.read(0, &mut content), Ok(()));
     drop(source);
     assert!(&rt; rt.remove_file(PATH).is_ok());
-}
-
-/// What is missing and what is no file has no source.
-#[test]
-fn what_is_no_file(rt: HostRuntime) {
-    assert_eq!(&rt;
-        fault(&rt, PATH),
-        Some(OpenFault::Failed(ErrorKind::NotFound))
-    );
-    assert_eq!(&rt;
-        fault(&rt, "."),
-        Some(OpenFault::Failed(ErrorKind::IsADirectory))
-    );
-    assert_eq!(&rt;
-        fault(&rt, "/dev/null"),
-        Some(OpenFault::Failed(ErrorKind::InvalidInput))
-    );
 }

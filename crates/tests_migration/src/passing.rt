@@ -5,8 +5,9 @@ ghost use Rattle.sector_disk.specs.File.{IsFileServed};
 
 use hill_look::Source;
 use sector_disk::{Device, Fault, MemoryDevice};
-use std::alloc::Global;
+use std::alloc::{Allocator, Global};
 use std::marker::Model;
+use tests_fixtures::Refusing;
 
 /// What becomes of the reads after the last of the devices.
 #[derive(Clone, Copy, PartialEq, Eq)]
@@ -20,8 +21,8 @@ pub(crate) enum Goes {
 /// The sectors of the first device for `every` reads, then for as many those of the next one, and so on. One read fails, if any: it counts
 /// them from 1 on. It is lawful in no contract.
 #[derive(Drop)]
-pub(crate) struct Passing {
-    pub devices: Vec<MemoryDevice<Global>, Global>,
+pub(crate) struct Passing<'m> {
+    pub devices: Vec<MemoryDevice<&'m Refusing<Global>>, &'m Refusing<Global>>,
     pub every: u64,
     pub goes: Goes,
     pub fails_at: u64,
@@ -30,7 +31,7 @@ pub(crate) struct Passing {
     pub faults: u64,
 }
 
-impl Model for Passing {
+impl Model for Passing<'_> {
     ghost use Rattle.sector_disk.specs.File.{FileState};
 
     ghost Value = { FileState };
@@ -38,7 +39,7 @@ impl Model for Passing {
     ghost view = { λ source. record { sectors = source.sectors; faults = source.faults } };
 }
 
-impl Passing {
+impl Passing<'_> {
     /// Counts the fault of a read that failed.
     fn counted(&mut self, answer: Result<(), Fault>) -> Result<(), Fault>
         ensures { IsFileServed self.old self.new result }
@@ -68,7 +69,7 @@ impl Passing {
     }
 }
 
-impl Source for Passing {
+impl Source for Passing<'_> {
     ghost use Rattle.sector_disk.specs.File.{file_facts};
 
     ghost facts = { file_facts };
@@ -94,7 +95,11 @@ fn place_at(reads: u64, every: u64, goes: Goes, count: usize) -> usize {
     }
 }
 
-fn read_within(device: &mut MemoryDevice<Global>, n: u32, to: &mut [u8; 512]) -> Result<(), Fault> {
+fn read_within<A: Allocator>(
+    device: &mut MemoryDevice<A>,
+    n: u32,
+    to: &mut [u8; 512],
+) -> Result<(), Fault> {
     if n >= device.sectors() {
         return Err(Fault);
     }

@@ -1,14 +1,13 @@
 //! A device that lets a store take no memory after its first call.
 
-use super::expect_refusals;
-use crate::expecting::{expect_opened, expect_reply, expect_true};
+use crate::expecting::{expect_opened, expect_refusals, expect_reply, expect_same};
 use crate::hills::{blank_in, created_on};
 use hill_store::{Reply, Store};
-use sector_disk::Device;
+use sector_disk::{Device, MemoryDevice};
 use std::alloc::Global;
 use std::process::Abort;
 use tests_fixtures::Refusing;
-use tests_stores::{Stinting, THREE, close, fell};
+use tests_stores::{THREE, Tried, audit, close, fell, lasting, stinting, within};
 
 /// Growths are refused now, and none was asked for since.
 fn expect_stinted(rt: &impl Abort, memory: &Refusing<Global>) {
@@ -29,26 +28,21 @@ fn expect_stinted_reply<D: Device>(
     expect_stinted(rt, memory);
 }
 
-/// The same of each of four warriors.
-fn expect_stinted_replies<D: Device>(
+/// The device of a hill of two, which was submitted to, audited and closed.
+fn stinted<'m>(
     rt: &impl Abort,
-    memory: &Refusing<Global>,
-    store: &mut Store<D, &Refusing<Global>>,
-) {
-    for (source, reply) in &THREE {
-        expect_stinted_reply(rt, memory, store, *source, *reply);
-    }
-    expect_stinted_reply(rt, memory, store, b"MOV 0,1", fell!(4, 4));
-}
-
-/// A hill of two on a device that stints, which was submitted to, audited and closed. The device comes back.
-fn stinted<D: Device + Drop>(rt: &impl Abort, memory: &Refusing<Global>, inner: D) -> D {
-    let mut store = created_on(rt, memory, Stinting { inner, memory });
+    memory: &'m Refusing<Global>,
+    device: Tried<'m>,
+) -> MemoryDevice<&'m Refusing<Global>> {
+    let mut store = created_on(rt, memory, device);
     expect_stinted(rt, memory);
-    expect_stinted_replies(rt, memory, &mut store);
+    for (source, reply) in &THREE {
+        expect_stinted_reply(rt, memory, &mut store, *source, *reply);
+    }
+    expect_stinted_reply(rt, memory, &mut store, b"MOV 0,1", fell!(4, 4));
     memory.refuse(0, u64::MAX);
-    expect_true(rt, &mut store);
-    close(store).inner
+    expect_same(rt, &audit(&mut store), &true, "an audit");
+    within(close(store))
 }
 
 /// The device has its memory from elsewhere. A store takes none once it has called its device, to create a hill and to submit, and an
@@ -56,9 +50,12 @@ fn stinted<D: Device + Drop>(rt: &impl Abort, memory: &Refusing<Global>, inner: 
 #[test]
 fn none_behind_the_first_call_of_the_device(rt: HostRuntime) {
     let memory = Refusing::new(rt.alloc());
-    let device = stinted(&rt, &memory, blank_in(&rt, rt.alloc()));
+    let disk = Refusing::new(rt.alloc());
+    let device = stinting(blank_in(&rt, &disk), &memory);
+    let device = stinted(&rt, &memory, device);
     expect_refusals(&rt, &memory, 0);
     memory.refuse(0, 0);
-    expect_opened(&rt, device, 2);
+    expect_opened(&rt, &memory, lasting(device), 2);
+    drop(disk);
     drop(memory);
 }

@@ -1,0 +1,193 @@
+//! A hill that is looked at while a warrior is placed, with each read failing and each growth refused.
+
+use crate::expecting::expect_same;
+use crate::hills::{created_on, image_of, new_in};
+use crate::passing::{Goes, Passing};
+use hill_look::{LookRefusal, look_at_hill};
+use hill_store::{Refusal, Reply, Store};
+use sector_disk::{Device, FuseKind, MemoryDevice};
+use std::alloc::{Allocator, Global};
+use std::process::Abort;
+use tests_fixtures::Refusing;
+use tests_stores::{FIRST, SECTORS, SMALL, audit, close, failing, opened, submit, within};
+
+/// Calls of the device when a hill of one warrior is opened: a sync, two headers, and the four sectors of its slot.
+const OPENING: u64 = 7;
+
+/// Calls of the device when a warrior is placed: four sectors, a sync, a header, a sync.
+const PLACING: u64 = 7;
+
+/// Reads of a try: the slots, and both headers.
+const TRY: u64 = SECTORS as u64;
+
+/// Reads of a look at which nothing changes: both headers twice, and the other sectors.
+const LOOK: u64 = SECTORS as u64 + 2;
+
+/// The device of a hill of one warrior.
+fn one_on<'m>(rt: &impl Abort, memory: &'m Refusing<Global>) -> MemoryDevice<&'m Refusing<Global>> {
+    let mut store = created_on(rt, memory, new_in(rt, memory), SMALL);
+    expect_same(rt, &submit(&mut store, b"JMP 0"), &FIRST, "a reply");
+    within(close(store))
+}
+
+/// What stands on the device if another warrior is placed and the device stops after `calls` of these calls.
+fn stopped_at<'m>(
+    rt: &impl Abort,
+    memory: &'m Refusing<Global>,
+    device: &MemoryDevice<&'m Refusing<Global>>,
+    calls: u64,
+) -> MemoryDevice<&'m Refusing<Global>> {
+    let copy = image_of(rt, device, &[]);
+    let fuse = failing(copy, OPENING.saturating_add(calls), FuseKind::Stop);
+    let mut store = opened(memory, fuse).expect(rt, "it opens");
+    let reply = submit(&mut store, b"MOV 0,1");
+    assert!(rt; matches!(reply, Reply::Placed { .. }) == (calls == PLACING));
+    within(close(store))
+}
+
+/// A source that goes through these devices.
+fn passing<'m>(
+    devices: Vec<MemoryDevice<&'m Refusing<Global>>, &'m Refusing<Global>>,
+    every: u64,
+    goes: Goes,
+) -> Passing<'m> {
+    Passing {
+        devices,
+        every,
+        goes,
+        fails_at: 0,
+        reads: 0,
+        sectors: SECTORS,
+        faults: 0,
+    }
+}
+
+/// A source that goes through the device before a warrior is placed, after each of the calls of that, and at the end.
+fn placing<'m>(rt: &impl Abort, memory: &'m Refusing<Global>) -> Passing<'m> {
+    let device = one_on(rt, memory);
+    let mut images = Vec::new(memory);
+    for calls in 0..PLACING + 1 {
+        let image = stopped_at(rt, memory, &device, calls);
+        assert!(rt; images.push(image).is_ok());
+    }
+    drop(device);
+    passing(images, 1, Goes::Once)
+}
+
+/// A source of which each try finds the headers of another hill.
+fn changing<'m>(rt: &impl Abort, memory: &'m Refusing<Global>) -> Passing<'m> {
+    let one = one_on(rt, memory);
+    let two = stopped_at(rt, memory, &one, PLACING);
+    let mut devices = Vec::new(memory);
+    assert!(rt; devices.push(one).is_ok());
+    assert!(rt; devices.push(two).is_ok());
+    passing(devices, TRY, Goes::Round)
+}
+
+/// How many warriors are on the hill that is looked at, and whether all its results are true; or why there is none.
+fn look(memory: &Refusing<Global>, source: &mut Passing<'_>) -> Result<(usize, bool), LookRefusal> {
+    match look_at_hill(memory, source) {
+        Ok(store) => Ok(counted(store)),
+        Err(refusal) => Err(refusal),
+    }
+}
+
+fn counted<D: Device + Drop, A: Allocator + Copy>(mut store: Store<D, A>) -> (usize, bool) {
+    let found = (store.hill().len(), audit(&mut store));
+    drop(store);
+    found
+}
+
+/// With `every` reads between two calls there are one or two warriors, and at last two.
+fn expect_one_or_two(
+    rt: &impl Abort,
+    memory: &Refusing<Global>,
+    source: &mut Passing<'_>,
+    every: u64,
+) {
+    source.every = every;
+    source.reads = 0;
+    let found = look(memory, source);
+    assert!(rt; found == Ok((1, true)) || found == Ok((2, true)));
+    source.reads = 1000;
+    expect_same(rt, &look(memory, source), &Ok((2, true)), "a look");
+}
+
+/// However fast the warrior is placed meanwhile.
+#[test]
+fn a_hill_that_is_written_meanwhile(rt: HostRuntime) {
+    let memory = Refusing::new(rt.alloc());
+    let mut source = placing(&rt, &memory);
+    for every in 1..LOOK + 1 {
+        expect_one_or_two(&rt, &memory, &mut source, every);
+    }
+    drop(source);
+    drop(memory);
+}
+
+/// If its headers change within each try, a hundred tries are made.
+#[test]
+fn a_hill_that_changes_too_quickly(rt: HostRuntime) {
+    let memory = Refusing::new(rt.alloc());
+    let mut source = changing(&rt, &memory);
+    let found = (look(&memory, &mut source), source.reads);
+    let due = (Err(LookRefusal::Changing), 2 + 100 * TRY);
+    expect_same(&rt, &found, &due, "a look");
+    drop(source);
+    drop(memory);
+}
+
+/// This read fails, and is not tried again.
+fn expect_failed(
+    rt: &impl Abort,
+    memory: &Refusing<Global>,
+    source: &mut Passing<'_>,
+    fails_at: u64,
+) {
+    source.every = 1000;
+    source.reads = 0;
+    source.faults = 0;
+    source.fails_at = fails_at;
+    let found = look(memory, source);
+    let due = Err(LookRefusal::Refused(Refusal::Disk));
+    let found = (found, source.reads, source.faults);
+    expect_same(rt, &found, &(due, fails_at, 1), "a look");
+}
+
+/// Each read that fails is `Disk`, and none is tried again.
+#[test]
+fn each_read_that_fails(rt: HostRuntime) {
+    let memory = Refusing::new(rt.alloc());
+    let mut source = placing(&rt, &memory);
+    for fails_at in 1..LOOK + 1 {
+        expect_failed(&rt, &memory, &mut source, fails_at);
+    }
+    drop(source);
+    drop(memory);
+}
+
+/// Growth `k` of the seven of a look is refused, or there is no such growth.
+fn expect_growth(rt: &impl Abort, memory: &Refusing<Global>, source: &mut Passing<'_>, k: u64) {
+    source.every = 1000;
+    source.reads = 0;
+    memory.refuse(k, 1);
+    let found = (look(memory, source), memory.refused());
+    let due = if k < 7 {
+        (Err(LookRefusal::Refused(Refusal::Memory)), 1)
+    } else {
+        (Ok((1, true)), 0)
+    };
+    expect_same(rt, &found, &due, "a look");
+}
+
+/// Each growth that is refused is `Memory`: the sectors, the members, an arena's four, and a warrior's code.
+#[test]
+fn each_growth_that_is_refused(rt: HostRuntime) {
+    let memory = Refusing::new(rt.alloc());
+    let mut source = placing(&rt, &memory);
+    for k in 0..8 {
+        expect_growth(&rt, &memory, &mut source, k);
+    }
+    drop(source);
+    drop(memory);
+}

@@ -1,0 +1,208 @@
+//! What the calls of a store answer, and how many calls they ask of its device.
+
+use crate::expecting::{
+    answered, answered_on, expect_calls, expect_replies, expect_reply, expect_same,
+};
+use crate::hills::{blank_in, blank_within, created_on, image_of, new_in, opened_on, small};
+use hill_store::{Refusal, Reply};
+use sector_disk::{Device, FuseKind, MemoryDevice};
+use std::alloc::Global;
+use std::process::Abort;
+use tests_fixtures::Refusing;
+use tests_stores::{
+    Answered, Counting, EMPTY, FIRST, ONE, REPLIES, SOURCES, TWO, Tried, failing, lasting, put,
+    refusal_to_create, refusal_to_open, set_byte, with_zeros,
+};
+
+/// Creating makes five calls: sync, read, read, write, sync. Each warrior that is placed makes seven more, the one that falls two.
+fn expect_list<D: Device + Drop>(
+    rt: &impl Abort,
+    memory: &Refusing<Global>,
+    device: Counting<'_, D>,
+) {
+    let mut store = created_on(rt, memory, device);
+    expect_replies(rt, &mut store, &SOURCES, &REPLIES);
+    expect_replies(rt, &mut store, &[], &[]);
+    expect_calls(rt, store, 5 + 16);
+}
+
+#[test]
+fn a_list_of_submissions(rt: HostRuntime) {
+    let memory = Refusing::new(rt.alloc());
+    expect_list(&rt, &memory, new_in(&rt, &memory));
+    drop(memory);
+}
+
+/// Numbers of steps, and the reply within them.
+static WITHIN: [(u64, Option<Reply>); 2] = [(0, None), (1_000_000, Some(FIRST))];
+
+/// A source whose assembly spends its steps is not submitted, and its device is not called. Within enough of them it is.
+fn expect_spent<D: Device + Drop>(
+    rt: &impl Abort,
+    memory: &Refusing<Global>,
+    device: Counting<'_, D>,
+) {
+    let mut store = created_on(rt, memory, device);
+    for (steps, reply) in &WITHIN {
+        let found = store.submit_within(b"MOV 0,1", Some(*steps));
+        expect_same(rt, &found, reply, "a reply within some steps");
+    }
+    expect_calls(rt, store, 5 + 7);
+}
+
+#[test]
+fn steps_that_are_spent(rt: HostRuntime) {
+    let memory = Refusing::new(rt.alloc());
+    expect_spent(&rt, &memory, new_in(&rt, &memory));
+    drop(memory);
+}
+
+/// A blank device of `sectors` sectors.
+fn blank_of<'m>(rt: &impl Abort, memory: &'m Refusing<Global>, sectors: u32) -> Tried<'m> {
+    lasting(MemoryDevice::new(memory, sectors).expect(rt, "there is memory"))
+}
+
+/// Sectors of a blank device, and how a creation on it is refused.
+static BLANK: [(u32, Option<Refusal>); 4] = [
+    (14, None),
+    (13, Some(Refusal::TooSmall)),
+    (4, Some(Refusal::TooSmall)),
+    (1, Some(Refusal::TooSmall)),
+];
+
+/// A command makes a file that is large enough before it creates a hill. Files that are refused to be opened are in `bench/transcripts`.
+#[test]
+fn devices_that_are_refused(rt: HostRuntime) {
+    let memory = Refusing::new(rt.alloc());
+    for (sectors, refusal) in &BLANK {
+        let device = blank_of(&rt, &memory, *sectors);
+        let found = refusal_to_create(&memory, device, small(&rt));
+        expect_same(&rt, &(*sectors, found), &(*sectors, *refusal), "a creation");
+    }
+    let occupied = lasting(answered(&rt, &memory, &[]));
+    let found = refusal_to_create(&memory, occupied, small(&rt));
+    expect_same(&rt, &found, &Some(Refusal::Occupied), "a hill");
+    drop(memory);
+}
+
+/// Refusals, and their names.
+static NAMES: [(Refusal, &str); 6] = [
+    (Refusal::Disk, "Disk"),
+    (Refusal::TooSmall, "TooSmall"),
+    (Refusal::Occupied, "Occupied"),
+    (Refusal::Memory, "Memory"),
+    (Refusal::NotAHill, "NotAHill"),
+    (Refusal::Damaged, "Damaged"),
+];
+
+fn expect_name(rt: &(impl Abort + AllocGlobal), refusal: Refusal, name: &str) {
+    let text = format!(in rt.alloc(); "{refusal}").expect(rt, "there is memory");
+    expect_same(rt, &text.as_str(), &name, "a name");
+    drop(text);
+}
+
+#[test]
+fn a_refusal_tells_its_name(rt: HostRuntime) {
+    for (refusal, name) in &NAMES {
+        expect_name(&rt, *refusal, *name);
+    }
+}
+
+/// What a store answers whose device stops at the last sync of a second warrior.
+static CUT: [Answered; 3] = [
+    (b"MOV 0,1", FIRST),
+    (b"JMP 0", Reply::Disk),
+    (b"JMP 0", Reply::Reopen),
+];
+
+/// What is left of the device then is shown by `sweeps`.
+#[test]
+fn a_device_that_fails(rt: HostRuntime) {
+    let memory = Refusing::new(rt.alloc());
+    let device = blank_within(&rt, &memory, 18, FuseKind::Stop);
+    drop(answered_on(&rt, &memory, device, &CUT));
+    drop(memory);
+}
+
+/// How the header of two warriors begins, of the generation 2. Zeros follow.
+static NAMED: [u8; 84] = [
+    0x4B, 0x4F, 0x54, 0x48, 0x48, 0x49, 0x4C, 0x32, 0, 0, 0, 0, 0, 0, 0, 2, 0, 0x40, 0, 0, 0, 0x64,
+    0, 8, 0, 10, 0, 10, 0, 2, 0, 0, 0, 1, 0, 2, 0, 0, 0, 0, 0, 0, 0, 0, 0, 0, 0, 2, 0, 2, 0, 0, 0,
+    0, 0, 0, 0, 1, 0, 0, 0, 0, 0, 0, 0, 0, 1, 0, 0, 0, 0, 0, 0, 0, 2, 1, 0, 0, 0, 0, 0, 0, 0, 0,
+];
+
+/// How that of the greatest generation begins, without warriors.
+static WORN: [u8; 36] = [
+    0x4B, 0x4F, 0x54, 0x48, 0x48, 0x49, 0x4C, 0x32, 255, 255, 255, 255, 255, 255, 255, 255, 0,
+    0x40, 0, 0, 0, 0x64, 0, 8, 0, 10, 0, 10, 0, 2, 0, 0, 0, 1, 0, 2,
+];
+
+/// A device of a hill of two that has a header which begins so in one of its sectors, and nothing else.
+fn device_with<'m>(
+    rt: &impl Abort,
+    memory: &'m Refusing<Global>,
+    n: u32,
+    header: &[u8],
+) -> MemoryDevice<&'m Refusing<Global>> {
+    let mut device = blank_in(rt, memory);
+    put(&mut device, n, &with_zeros(header)).expect(rt, "it has the sector");
+    device
+}
+
+/// A device whose header names two slots, in which there are no warriors, is refused so if it stops after `calls` calls.
+fn expect_bad_slots(rt: &impl Abort, memory: &Refusing<Global>, calls: u64, refusal: Refusal) {
+    let device = failing(device_with(rt, memory, 0, &NAMED), calls, FuseKind::Stop);
+    let found = refusal_to_open(memory, device);
+    expect_same(rt, &(calls, found), &(calls, Some(refusal)), "a refusal");
+}
+
+/// A sync, two headers and the four sectors of the first slot are seven calls: if the eighth fails, the first slot is reported all the same.
+#[test]
+fn slots_are_refused_in_their_order(rt: HostRuntime) {
+    let memory = Refusing::new(rt.alloc());
+    expect_bad_slots(&rt, &memory, 6, Refusal::Disk);
+    expect_bad_slots(&rt, &memory, 7, Refusal::Damaged);
+    drop(memory);
+}
+
+/// Opening makes three calls if the hill is empty, and what follows none.
+fn expect_worn<D: Device + Drop>(
+    rt: &impl Abort,
+    memory: &Refusing<Global>,
+    device: Counting<'_, D>,
+) {
+    let mut store = opened_on(rt, memory, device);
+    expect_reply(rt, &mut store, b"", EMPTY);
+    expect_reply(rt, &mut store, b"MOV 0,1", Reply::Worn);
+    expect_calls(rt, store, 3);
+}
+
+#[test]
+fn the_greatest_generation(rt: HostRuntime) {
+    let memory = Refusing::new(rt.alloc());
+    expect_worn(&rt, &memory, lasting(device_with(&rt, &memory, 1, &WORN)));
+    drop(memory);
+}
+
+/// A device that an earlier version wrote, which kept no results.
+fn earlier<'m>(
+    rt: &impl Abort,
+    memory: &'m Refusing<Global>,
+) -> MemoryDevice<&'m Refusing<Global>> {
+    let mut device = answered(rt, memory, &TWO);
+    for n in 0..2 {
+        set_byte(&mut device, n, 7, b'0').expect(rt, "it has the byte");
+    }
+    device
+}
+
+/// A device that an earlier version wrote, which kept no results, holds no hill, and one is created over it.
+#[test]
+fn an_earlier_hill_is_none(rt: HostRuntime) {
+    let memory = Refusing::new(rt.alloc());
+    let device = earlier(&rt, &memory);
+    let refusal = refusal_to_open(&memory, image_of(&rt, &device, &[]));
+    expect_same(&rt, &refusal, &Some(Refusal::NotAHill), "no hill");
+    drop(answered_on(&rt, &memory, lasting(device), &ONE));
+    drop(memory);
+}

@@ -1,0 +1,94 @@
+//! Growths of a device that takes its memory from an allocator that refuses them.
+
+use crate::expecting::{answered_on, expect_refusals, expect_reply, expect_rows, expect_same};
+use crate::hills::{created_on, new_in, opened_on, small};
+use hill_store::{Refusal, Reply};
+use sector_disk::Device;
+use std::alloc::Global;
+use std::process::Abort;
+use tests_fixtures::Refusing;
+use tests_stores::{Counting, FIRST, ONE, close, create};
+
+/// A device in memory takes a growth at the first write to a sector, as of the header of a hill that is created. A warrior is placed on
+/// the hill that is created there then.
+fn expect_none_created<D: Device + Drop>(
+    rt: &impl Abort,
+    memory: &Refusing<Global>,
+    disk: &Refusing<Global>,
+    device: D,
+) {
+    disk.refuse(0, 1);
+    match create(memory, device, small(rt)) {
+        Ok(store) => drop(store),
+        Err((device, refusal)) => {
+            expect_same(
+                rt,
+                &(device.faults(), refusal),
+                &(1, Refusal::Disk),
+                "one fault",
+            );
+            drop(answered_on(rt, memory, device, &ONE));
+        }
+    }
+    expect_refusals(rt, disk, 1);
+}
+
+/// The hill that is opened on a device has no warrior, and one is placed there.
+fn expect_empty<D: Device + Drop>(rt: &impl Abort, memory: &Refusing<Global>, device: D) {
+    let mut store = opened_on(rt, memory, device);
+    expect_rows(rt, &store, 0);
+    expect_reply(rt, &mut store, b"MOV 0,1", FIRST);
+    drop(store);
+}
+
+/// This growth of the device's memory is refused while a warrior is submitted, and the device was asked for its number of calls.
+fn expect_refused<D: Device + Drop>(
+    rt: &impl Abort,
+    memory: &Refusing<Global>,
+    disk: &Refusing<Global>,
+    device: Counting<'_, D>,
+    growth: (u64, u64),
+) {
+    let (k, calls) = growth;
+    let mut store = created_on(rt, memory, device);
+    disk.refuse(k, 1);
+    expect_reply(rt, &mut store, b"MOV 0,1", Reply::Disk);
+    expect_reply(rt, &mut store, b"MOV 0,1", Reply::Reopen);
+    expect_rows(rt, &store, 0);
+    let device = close(store);
+    expect_same(rt, &(device.calls, disk.refused()), &(calls, 1), "calls");
+    expect_empty(rt, memory, device);
+}
+
+/// No growth of the device's memory is the sixth while a warrior is submitted.
+fn expect_no_more<D: Device + Drop>(
+    rt: &impl Abort,
+    memory: &Refusing<Global>,
+    disk: &Refusing<Global>,
+    device: D,
+) {
+    let mut store = created_on(rt, memory, device);
+    disk.refuse(5, 1);
+    expect_reply(rt, &mut store, b"MOV 0,1", FIRST);
+    expect_refusals(rt, disk, 0);
+    drop(store);
+}
+
+/// Growths of the device's memory, and the calls that it was asked for if one of them is refused.
+static REFUSED: [(u64, u64); 5] = [(0, 5 + 1), (1, 5 + 2), (2, 5 + 3), (3, 5 + 4), (4, 5 + 6)];
+
+/// A warrior is placed by the first writes to the four sectors of a slot, and, after a sync, to a header's: five growths. The store whose
+/// device found no memory is as it was before, and so is the hill that is opened on its device. It calls its device no more: creating
+/// the hill made five calls.
+#[test]
+fn of_a_device(rt: HostRuntime) {
+    let memory = Refusing::new(rt.alloc());
+    let disk = Refusing::new(rt.alloc());
+    expect_none_created(&rt, &memory, &disk, new_in(&rt, &disk));
+    for refused in &REFUSED {
+        expect_refused(&rt, &memory, &disk, new_in(&rt, &disk), *refused);
+    }
+    expect_no_more(&rt, &memory, &disk, new_in(&rt, &disk));
+    drop(disk);
+    drop(memory);
+}

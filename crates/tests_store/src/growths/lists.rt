@@ -1,0 +1,98 @@
+//! Growths of a list of submissions, to a store whose device takes its memory from the same allocator.
+
+use crate::expecting::{expect_opened, expect_replies, expect_reply, expect_rows, expect_same};
+use crate::hills::{created_on, new_in};
+use hill_store::{Reply, Store};
+use sector_disk::Device;
+use std::alloc::Global;
+use std::process::Abort;
+use tests_fixtures::Refusing;
+use tests_stores::{EMPTY, FIRST, REPLIES, SECOND, SOURCES, close, placed, submit_all};
+
+/// The sources are submitted to an empty hill, and this growth is refused, or none is: these are the replies. Each warrior that was placed
+/// is on the hill, and on the one that is opened on its device, and no other.
+fn expect_list<D: Device + Drop>(
+    rt: &impl Abort,
+    memory: &Refusing<Global>,
+    device: D,
+    growth: (u64, u64),
+    replies: &[Reply],
+) {
+    let (k, refused) = growth;
+    let mut store = created_on(rt, memory, device);
+    memory.refuse(k, 1);
+    expect_replies(rt, &mut store, &SOURCES, replies);
+    expect_same(rt, &(k, memory.refused()), &(k, refused), "growths refused");
+    memory.refuse(0, 0);
+    expect_rows(rt, &store, placed_in(replies));
+    expect_opened(rt, memory, close(store), placed_in(replies));
+}
+
+/// How many warriors were placed.
+fn placed_in(replies: &[Reply]) -> usize {
+    let mut count: usize = 0;
+    for reply in replies {
+        if matches!(*reply, Reply::Placed { .. }) {
+            count = count.saturating_add(1);
+        }
+    }
+    count
+}
+
+/// Whether there is no memory for the list of the replies.
+fn is_refused<D: Device>(store: &mut Store<D, &Refusing<Global>>) -> bool {
+    submit_all(store, &SOURCES).is_err()
+}
+
+/// The first growth is that of the list of the replies: without it nothing is submitted.
+fn expect_no_list<D: Device + Drop>(rt: &impl Abort, memory: &Refusing<Global>, device: D) {
+    let mut store = created_on(rt, memory, device);
+    memory.refuse(0, 1);
+    let found = (is_refused(&mut store), memory.refused());
+    expect_same(rt, &found, &(true, 1), "no list");
+    expect_rows(rt, &store, 0);
+    expect_reply(rt, &mut store, b"MOV 0,1", FIRST);
+    drop(store);
+}
+
+/// The reply to a second warrior that loses both rounds.
+const LOSES: Reply = placed!(2, 2, 0);
+
+/// Numbers of growths of the list, in their order, and the replies if one of them is refused: growths of the first source, of the device's
+/// writes for it, and so on. The third, without a line, takes none, and the fourth writes to a sector that was written before. A warrior
+/// that finds no memory leaves its entry and its place to the next. Nothing follows `Disk`.
+static GROWTHS: [(u64, &[Reply]); 5] = [
+    (10, &[Reply::Memory, FIRST, EMPTY, LOSES]),
+    (5, &[Reply::Disk]),
+    (10, &[FIRST, Reply::Memory, EMPTY, LOSES]),
+    (4, &[FIRST, Reply::Disk]),
+    (10, &[FIRST, SECOND, EMPTY, Reply::Memory]),
+];
+
+/// Each of `count` growths from growth `from` on is refused, and these are the replies. The growth after them is the answer.
+fn expect_each(
+    rt: &impl Abort,
+    memory: &Refusing<Global>,
+    from: u64,
+    count: u64,
+    replies: &[Reply],
+) -> u64 {
+    let behind = from.saturating_add(count);
+    for k in from..behind {
+        expect_list(rt, memory, new_in(rt, memory), (k, 1), replies);
+    }
+    behind
+}
+
+/// Each growth after that of the list of the replies, and then none.
+#[test]
+fn of_a_list(rt: HostRuntime) {
+    let memory = Refusing::new(rt.alloc());
+    expect_no_list(&rt, &memory, new_in(&rt, &memory));
+    let mut k: u64 = 1;
+    for (growths, replies) in &GROWTHS {
+        k = expect_each(&rt, &memory, k, *growths, *replies);
+    }
+    expect_list(&rt, &memory, new_in(&rt, &memory), (k, 0), &REPLIES);
+    drop(memory);
+}
