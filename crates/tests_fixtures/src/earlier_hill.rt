@@ -1,17 +1,13 @@
 //! A hill that the program wrote before slots had four sectors, and before settings had limits.
 //!
 //! It is in the old format, and its fields of limits are zeros, which stand for the core size. These are the bytes that an earlier version
-//! left on its device, and the table that it showed of them. Nothing here computes what is expected of them.
+//! left on its device. `migrations` in `bench/transcripts` has the same, and what that version said of them.
 
 /// Bytes of a sector.
 pub const SECTOR: usize = 512;
 
 /// Sectors of the device: those of the headers, and two for each of four slots.
 pub const SECTORS: usize = 2 + 2 * 4;
-
-/// Its table, as that version showed it.
-pub const TABLE: &str =
-    "1 4 92 0 Stone by Nobody\n2 2 35 2 Dwarf by A. K. Dewdney\n3 1 21 3 Imp by A. K. Dewdney\n.\n";
 
 /// A sector, where what it holds begins, and the bytes.
 type Written = (u32, usize, &'static [u8]);
@@ -67,17 +63,6 @@ const WRITTEN: [Written; 17] = [
     (9, 340, b"Nobody"),
     (9, 391, &[17, 0, 0, 0, 9, 0, 0, 0, 20]),
 ];
-
-/// What this sector holds.
-pub fn sector_of(n: u32) -> [u8; SECTOR] {
-    let mut content = [0; SECTOR];
-    for (sector, begins, written) in &WRITTEN {
-        if *sector == n {
-            write_at(&mut content, *begins, *written);
-        }
-    }
-    content
-}
 
 /// All sectors, one after another.
 pub fn bytes() -> [u8; SECTORS * SECTOR] {

@@ -46,7 +46,7 @@ fn stopped_at<'m>(
 }
 
 /// A source that goes through these devices.
-fn passing<'m>(
+fn source_of<'m>(
     devices: Vec<MemoryDevice<&'m Refusing<Global>>, &'m Refusing<Global>>,
     every: u64,
     goes: Goes,
@@ -71,7 +71,7 @@ fn placing<'m>(rt: &impl Abort, memory: &'m Refusing<Global>) -> Passing<'m> {
         assert!(rt; images.push(image).is_ok());
     }
     drop(device);
-    passing(images, 1, Goes::Once)
+    source_of(images, 1, Goes::Once)
 }
 
 /// A source of which each try finds the headers of another hill.
@@ -81,7 +81,7 @@ fn changing<'m>(rt: &impl Abort, memory: &'m Refusing<Global>) -> Passing<'m> {
     let mut devices = Vec::new(memory);
     assert!(rt; devices.push(one).is_ok());
     assert!(rt; devices.push(two).is_ok());
-    passing(devices, TRY, Goes::Round)
+    source_of(devices, TRY, Goes::Round)
 }
 
 /// How many warriors are on the hill that is looked at, and whether all its results are true; or why there is none.

@@ -31,7 +31,7 @@ pub(crate) struct Passing<'m> {
     pub faults: u64,
 }
 
-impl Model for Passing<'_> {
+impl<'m> Model for Passing<'m> {
     ghost use Rattle.sector_disk.specs.File.{FileState};
 
     ghost Value = { FileState };
