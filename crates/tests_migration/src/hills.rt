@@ -7,7 +7,7 @@ use std::alloc::{Allocator, Global};
 use std::process::Abort;
 use tests_fixtures::Refusing;
 use tests_stores::{
-    SECTORS, SMALL, THREE, Tried, close, created, lasting, narrowed, open, refused, sector,
+    SECTORS, SMALL, THREE, Tried, audit, close, created, lasting, narrowed, open, refused, sector,
     settings_from, submit, within,
 };
 use war_types::RawSettings;
@@ -102,4 +102,13 @@ pub(crate) fn hill_on<D: Device + Drop, A: Allocator + Copy>(
             None
         }
     }
+}
+
+/// How many warriors are on the hill of a store, and whether all its results are true. The store is dropped.
+pub(crate) fn counted<D: Device + Drop, A: Allocator + Copy>(
+    mut store: Store<D, A>,
+) -> (usize, bool) {
+    let found = (store.hill().len(), audit(&mut store));
+    drop(store);
+    found
 }

@@ -1,10 +1,12 @@
-//! Tests of `Store::migrate` of `hill_store`, and of the public calls of `hill_look`: hills that are read and stay as they are.
+//! Tests of `Store::migrate` and `Store::copy_to` of `hill_store`, and of the public calls of `hill_look`: hills that are read and stay as
+//! they are.
 //!
 //! No crate stands on this one, so those are proved once, without tests, and the tests are proved over them:
 //!
 //! - `migrations`: a hill of two that is moved to another device, `refused`: devices between which none is moved, and `growths`: growths of
 //!   memory that are refused;
 //! - `moves`: a stop and a fault at each call of a move, and `twenty`: a stop at each of those of a full hill;
+//! - `copies`: a copy on another device;
 //! - `looks`: a hill that is looked at while it is written. `passing` is a source that goes from one device's sectors to the next one's while
 //!   it is read, and may fail at a read;
 //! - `files`: a file that is looked at.
@@ -16,6 +18,8 @@
 //! are in `bench/transcripts`, byte by byte.
 #![tactic(auto)]
 
+#[cfg(test)]
+mod copies;
 #[cfg(test)]
 mod expecting;
 #[cfg(test)]

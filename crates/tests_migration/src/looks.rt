@@ -1,15 +1,15 @@
 //! A hill that is looked at while a warrior is placed, with each read failing and each growth refused.
 
 use crate::expecting::expect_same;
-use crate::hills::{created_on, image_of, new_in};
+use crate::hills::{counted, created_on, image_of, new_in};
 use crate::passing::{Goes, Passing};
 use hill_look::{LookRefusal, look_at_hill};
-use hill_store::{Refusal, Reply, Store};
-use sector_disk::{Device, FuseKind, MemoryDevice};
-use std::alloc::{Allocator, Global};
+use hill_store::{Refusal, Reply};
+use sector_disk::{FuseKind, MemoryDevice};
+use std::alloc::Global;
 use std::process::Abort;
 use tests_fixtures::Refusing;
-use tests_stores::{FIRST, SECTORS, SMALL, audit, close, failing, opened, submit, within};
+use tests_stores::{FIRST, SECTORS, SMALL, close, failing, opened, submit, within};
 
 /// Calls of the device when a hill of one warrior is opened: a sync, two headers, and the four sectors of its slot.
 const OPENING: u64 = 7;
@@ -90,12 +90,6 @@ fn look(memory: &Refusing<Global>, source: &mut Passing<'_>) -> Result<(usize, b
         Ok(store) => Ok(counted(store)),
         Err(refusal) => Err(refusal),
     }
-}
-
-fn counted<D: Device + Drop, A: Allocator + Copy>(mut store: Store<D, A>) -> (usize, bool) {
-    let found = (store.hill().len(), audit(&mut store));
-    drop(store);
-    found
 }
 
 /// With `every` reads between two calls there are one or two warriors, and at last two.

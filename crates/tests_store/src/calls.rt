@@ -11,7 +11,7 @@ use std::process::Abort;
 use tests_fixtures::Refusing;
 use tests_stores::{
     Answered, Counting, EMPTY, FIRST, ONE, REPLIES, SOURCES, TWO, Tried, failing, lasting, put,
-    refusal_to_create, refusal_to_open, set_byte, with_zeros,
+    refusal_to_create, refusal_to_open, set_byte, submit, tried_reply, with_zeros,
 };
 
 /// Creating makes five calls: sync, read, read, write, sync. Each warrior that is placed makes seven more, the one that falls two.
@@ -54,6 +54,30 @@ fn expect_spent<D: Device + Drop>(
 fn steps_that_are_spent(rt: HostRuntime) {
     let memory = Refusing::new(rt.alloc());
     expect_spent(&rt, &memory, new_in(&rt, &memory));
+    drop(memory);
+}
+
+/// Sources for a hill of two: two tie with both of its warriors, one loses to both, and one is refused.
+static TRIED: [&[u8]; 4] = [b"MOV 0,1", b"DAT 0,0", b"JMP 0", b"MVO 0"];
+
+/// A source is answered the same way if it is tried, in many steps too, and if it is submitted then. Without steps it isn't.
+fn expect_tried<D: Device + Drop>(rt: &impl Abort, memory: &Refusing<Global>, device: D) {
+    let mut store = opened_on(rt, memory, device);
+    for source in &TRIED {
+        let tried = tried_reply(&mut store, *source, None);
+        let within = tried_reply(&mut store, *source, Some(1_000_000));
+        let submitted = Some(submit(&mut store, *source));
+        expect_same(rt, &(within, submitted), &(tried, tried), "replies");
+    }
+    let spent = tried_reply(&mut store, b"JMP 0", Some(0));
+    expect_same(rt, &spent, &None, "a trial without steps");
+    drop(store);
+}
+
+#[test]
+fn sources_that_are_tried(rt: HostRuntime) {
+    let memory = Refusing::new(rt.alloc());
+    expect_tried(&rt, &memory, lasting(answered(&rt, &memory, &TWO)));
     drop(memory);
 }
 

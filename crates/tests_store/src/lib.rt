@@ -4,7 +4,6 @@
 //!
 //! - `calls`: what the calls answer and ask of their device, and `steps`: submissions in parts;
 //! - `sweeps`: a stop and a fault at each call of the device, and `lives`: a life of one;
-//! - `copies`: a copy on another device, and sources that are tried;
 //! - `growths`: what becomes of a hill if a growth of memory is refused, and which calls need none.
 //!
 //! `hills` makes hills and their devices, and `expecting` has what tests expect of a store, which they call by
@@ -12,13 +11,12 @@
 //!
 //! A test here must not show what a contract could say instead, nor what the built program shows: the bytes that a store
 //! writes, what it answers to sources, and results that a file keeps are in `bench/transcripts`. `bench/images` compares
-//! headers and slots, and `tests_migration` tries hills that are moved or looked at.
+//! headers and slots, and `tests_migration` tries hills that are moved, copied or
+//! looked at.
 #![tactic(auto)]
 
 #[cfg(test)]
 mod calls;
-#[cfg(test)]
-mod copies;
 #[cfg(test)]
 mod expecting;
 #[cfg(test)]

@@ -42,22 +42,6 @@ pub fn moved_from<O: Device + Drop, D: Device + Drop, A: Allocator + Copy>(
     }
 }
 
-/// Two devices between which no hill is moved, and why, if none is.
-pub fn not_moved<O: Device + Drop, D: Device + Drop, A: Allocator + Copy>(
-    alloc: A,
-    old: O,
-    new: D,
-) -> Option<(O, D, MigrateFault)> {
-    match migrate(alloc, old, new) {
-        Ok((old, store)) => {
-            drop(old);
-            drop(store);
-            None
-        }
-        Err(refused) => Some(refused),
-    }
-}
-
 /// Two devices after a move from one to the other, and why there was none, if there was none.
 pub fn tried<O: Device + Drop, D: Device + Drop, A: Allocator + Copy>(
     alloc: A,
