@@ -4,7 +4,6 @@
 //! instructions 64 to 99 and, from 288 on, the fields that the last sector of the new one has.
 
 use crate::sectors::{put, sector};
-use hill_bytes::{decode_header, encode_old_header};
 use sector_disk::{Fault, MemoryDevice};
 use std::alloc::{AllocError, Allocator};
 
@@ -40,27 +39,17 @@ fn narrow<A: Allocator>(
     Ok(())
 }
 
-/// The header in this sector, if there is one.
+/// What this sector holds, a header or zeros. The eighth byte of a header is the number of its format, and the others are the same in both.
 fn narrow_header<A: Allocator>(
     new: &mut MemoryDevice<A>,
     old: &mut MemoryDevice<A>,
     n: u32,
 ) -> Result<(), Fault> {
-    match narrowed_header(&sector(new, n)?)? {
-        Some(content) => put(old, n, &content),
-        None => Ok(()),
+    let mut content = sector(new, n)?;
+    if content[7] == b'2' {
+        content[7] = b'1';
     }
-}
-
-/// A header in the old format, if this is one in the new one.
-fn narrowed_header(content: &[u8; 512]) -> Result<Option<[u8; 512]>, Fault> {
-    match decode_header(content) {
-        Some(header) => match encode_old_header(&header) {
-            Some(content) => Ok(Some(content)),
-            None => Err(Fault),
-        },
-        None => Ok(None),
-    }
+    put(old, n, &content)
 }
 
 fn narrow_slot<A: Allocator>(
