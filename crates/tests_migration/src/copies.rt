@@ -4,21 +4,22 @@ use crate::expecting::expect_same;
 use crate::hills::{blank_of, counted, created_on, hill_on, new_in};
 use hill_store::{Refusal, Store};
 use sector_disk::{Device, FuseKind};
-use std::alloc::Global;
+use std::alloc::{Allocator, Global};
 use std::process::Abort;
 use tests_fixtures::Refusing;
-use tests_stores::{SECTORS, SMALL, TWO, Tried, copy, failing, lasting, submit, within};
+use tests_stores::{SECTORS, SMALL, TWO, copy, failing, lasting, submit, within};
 
 /// Calls of the new device when a hill of two warriors is copied: a sync and both headers, four sectors of each warrior, a sync, a header, a
 /// sync.
 const COPYING: u64 = 3 + 8 + 3;
 
-/// A store of a hill with two warriors.
-fn two_on<'m>(
+/// A store of a hill with two warriors, on this device.
+fn two_on<D: Device + Drop, A: Allocator + Copy>(
     rt: &impl Abort,
-    memory: &'m Refusing<Global>,
-) -> Store<Tried<'m>, &'m Refusing<Global>> {
-    let mut store = created_on(rt, memory, new_in(rt, memory), SMALL);
+    alloc: A,
+    device: D,
+) -> Store<D, A> {
+    let mut store = created_on(rt, alloc, device, SMALL);
     for (source, reply) in &TWO {
         expect_same(rt, &submit(&mut store, *source), reply, "a reply");
     }
@@ -60,18 +61,31 @@ fn copied_to<D: Device, N: Device + Drop>(
     new
 }
 
-/// It is made though each growth of the store's memory is refused.
+/// The new device of a copy, and how many growths of the store's memory were refused, as each of them was. One that is too small got none.
+fn copied_without<D: Device + Drop, N: Device + Drop>(
+    rt: &impl Abort,
+    memory: &Refusing<Global>,
+    device: D,
+    small: N,
+    new: N,
+) -> (N, u64) {
+    let store = two_on(rt, memory, device);
+    memory.refuse(0, u64::MAX);
+    expect_too_small(rt, &store, small);
+    let new = copied_to(rt, &store, new);
+    drop(store);
+    (new, memory.refused())
+}
+
 #[test]
 fn a_copy_without_memory(rt: HostRuntime) {
     let memory = Refusing::new(rt.alloc());
     let disk = Refusing::new(rt.alloc());
-    let store = two_on(&rt, &memory);
-    memory.refuse(0, u64::MAX);
-    expect_too_small(&rt, &store, lasting(blank_of(&rt, &disk, SECTORS - 1)));
-    let device = copied_to(&rt, &store, new_in(&rt, &disk));
-    drop(store);
-    let found = (memory.refused(), found_on(&rt, &disk, device));
-    expect_same(&rt, &found, &(0, Some((2, true))), "the copy");
+    let small = lasting(blank_of(&rt, &disk, SECTORS - 1));
+    let device = new_in(&rt, &disk);
+    let (new, refused) = copied_without(&rt, &memory, device, small, new_in(&rt, &disk));
+    let found = (found_on(&rt, &disk, new), refused);
+    expect_same(&rt, &found, &(Some((2, true)), 0), "the copy");
     drop(disk);
     drop(memory);
 }
@@ -92,16 +106,21 @@ fn expect_cut<D: Device>(
     assert!(rt; found == Some((2, true)) || found.is_none() && is_cut);
 }
 
+/// The hill of this device is copied to one that stops or fails, at each call.
+fn expect_cuts<D: Device + Drop>(rt: &impl Abort, memory: &Refusing<Global>, device: D) {
+    let store = two_on(rt, memory, device);
+    for calls in 0..COPYING + 1 {
+        expect_cut(rt, memory, &store, calls, FuseKind::Stop);
+        expect_cut(rt, memory, &store, calls, FuseKind::FailLost);
+        expect_cut(rt, memory, &store, calls, FuseKind::FailKept);
+    }
+    drop(store);
+}
+
 /// Wherever copying stops, the device holds no hill, or the whole of it; and so at each call that fails.
 #[test]
 fn a_copy_that_is_stopped(rt: HostRuntime) {
     let memory = Refusing::new(rt.alloc());
-    let store = two_on(&rt, &memory);
-    for calls in 0..COPYING + 1 {
-        expect_cut(&rt, &memory, &store, calls, FuseKind::Stop);
-        expect_cut(&rt, &memory, &store, calls, FuseKind::FailLost);
-        expect_cut(&rt, &memory, &store, calls, FuseKind::FailKept);
-    }
-    drop(store);
+    expect_cuts(&rt, &memory, new_in(&rt, &memory));
     drop(memory);
 }

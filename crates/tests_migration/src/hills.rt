@@ -1,14 +1,14 @@
 //! Devices in memory, and hills on them, as the tests make them. What is to be done and isn't ends the test at once.
 
-use crate::expecting::expect_same;
+use crate::expecting::{expect_same, expect_true_rows};
 use hill_store::{MigrateFault, Refusal, Store};
 use sector_disk::{Device, MemoryDevice};
 use std::alloc::{Allocator, Global};
 use std::process::Abort;
 use tests_fixtures::Refusing;
 use tests_stores::{
-    SECTORS, SMALL, THREE, Tried, audit, close, created, lasting, narrowed, open, refused, sector,
-    settings_from, submit, within,
+    SECTORS, SMALL, THREE, Tried, audit, close, created, lasting, moved, narrowed, open, refused,
+    sector, settings_from, submit, within,
 };
 use war_types::RawSettings;
 
@@ -111,4 +111,17 @@ pub(crate) fn counted<D: Device + Drop, A: Allocator + Copy>(
     let found = (store.hill().len(), audit(&mut store));
     drop(store);
     found
+}
+
+/// The hill of two is moved from one of these devices to the other. The old one comes back.
+pub(crate) fn moved_off<O: Device + Drop, D: Device + Drop>(
+    rt: &impl Abort,
+    memory: &Refusing<Global>,
+    old: O,
+    new: D,
+) -> O {
+    let moved = moved(memory, old, new);
+    let (old, store) = moved.expect(rt, "it is moved");
+    expect_true_rows(rt, store);
+    old
 }

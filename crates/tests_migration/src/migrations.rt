@@ -1,13 +1,13 @@
 //! A hill of two that is moved from a device in the old format to another one.
 
-use crate::expecting::{expect_equal, expect_same, expect_the_rows, expect_true_rows};
-use crate::hills::{blank_of, content_of, image_of, new_in, old_device};
+use crate::expecting::{expect_equal, expect_same, expect_true_rows};
+use crate::hills::{blank_of, content_of, image_of, moved_off, new_in, old_device};
 use sector_disk::{Device, MemoryDevice};
 use std::alloc::Global;
 use std::process::Abort;
 use tests_fixtures::Refusing;
 use tests_stores::{
-    Counting, SECTORS, close, fell, holds, lasting, moved, moved_from, opened, put, submit, within,
+    Counting, SECTORS, close, fell, holds, lasting, moved, opened, put, submit, within,
 };
 
 /// The old device is asked for a sync, two headers and two sectors of each slot. The new one is asked for a sync, two headers, four sectors
@@ -57,10 +57,7 @@ fn left_of_moved<'m>(
     memory: &'m Refusing<Global>,
     old: MemoryDevice<&'m Refusing<Global>>,
 ) -> MemoryDevice<&'m Refusing<Global>> {
-    let moved = moved(memory, lasting(old), new_in(rt, memory));
-    let (old, store) = moved.expect(rt, "it is moved");
-    expect_the_rows(rt, store);
-    let old = within(old);
+    let old = within(moved_off(rt, memory, lasting(old), new_in(rt, memory)));
     let left = image_of(rt, &old, &[]);
     drop(old);
     left
@@ -90,16 +87,34 @@ fn filled<'m>(
     device
 }
 
+/// The new device of a move to it.
+fn moved_to<O: Device + Drop, D: Device + Drop>(
+    rt: &impl Abort,
+    memory: &Refusing<Global>,
+    old: O,
+    new: D,
+) -> D {
+    let moved = moved(memory, old, new);
+    let (old, store) = moved.expect(rt, "it is moved");
+    drop(old);
+    close(store)
+}
+
+/// The hill that this device opens to is that of two.
+fn expect_opens<D: Device + Drop>(rt: &impl Abort, memory: &Refusing<Global>, device: D) {
+    let store = opened(memory, device);
+    expect_true_rows(rt, store.expect(rt, "it opens"));
+}
+
 /// Sectors of a new device that hold no header may hold anything. A slot that no warrior has keeps it.
 #[test]
 fn a_new_device_need_not_be_blank(rt: HostRuntime) {
     let memory = Refusing::new(rt.alloc());
     let old = lasting(old_device(&rt, &memory));
-    let moved = moved_from(&memory, old, lasting(filled(&rt, &memory, 0xFF)));
-    let mut device = within(close(moved.expect(&rt, "it is moved")));
+    let new = lasting(filled(&rt, &memory, 0xFF));
+    let mut device = within(moved_to(&rt, &memory, old, new));
     let found = holds(&mut device, 10, &[0xFF; 512]);
     expect_same(&rt, &found, &Ok(true), "a sector of a free slot");
-    let store = opened(&memory, lasting(device));
-    expect_true_rows(&rt, store.expect(&rt, "it opens"));
+    expect_opens(&rt, &memory, lasting(device));
     drop(memory);
 }

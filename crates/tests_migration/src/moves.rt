@@ -1,13 +1,13 @@
 //! What a stop, or one fault, leaves of a hill of two that is moved to another device.
 
 use crate::expecting::{expect_same, expect_the_rows, expect_true_rows};
-use crate::hills::{blank_of, expect_fault, hill_on, image_of, new_in, old_device};
+use crate::hills::{blank_of, expect_fault, hill_on, image_of, moved_off, new_in, old_device};
 use hill_store::Refusal;
 use sector_disk::{FuseKind, MemoryDevice};
 use std::alloc::Global;
 use std::process::Abort;
 use tests_fixtures::Refusing;
-use tests_stores::{SECTORS, failing, lasting, migrate, moved, tried, within};
+use tests_stores::{SECTORS, failing, lasting, migrate, tried, within};
 
 /// Calls of the new device: a sync, two headers, four sectors for each of two slots, a sync, the header in sector 1, and a sync.
 const CALLS: u64 = 14;
@@ -78,10 +78,7 @@ fn expect_moves<'m>(
     memory: &'m Refusing<Global>,
     old: MemoryDevice<&'m Refusing<Global>>,
 ) -> MemoryDevice<&'m Refusing<Global>> {
-    let moved = moved(memory, lasting(old), new_in(rt, memory));
-    let (old, store) = moved.expect(rt, "it is moved");
-    expect_true_rows(rt, store);
-    within(old)
+    within(moved_off(rt, memory, lasting(old), new_in(rt, memory)))
 }
 
 /// A new device holds the hill, or it can be moved to that device again.

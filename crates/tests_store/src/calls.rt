@@ -4,7 +4,7 @@ use crate::expecting::{
     answered, answered_on, expect_calls, expect_replies, expect_reply, expect_same,
 };
 use crate::hills::{blank_in, blank_within, created_on, image_of, new_in, opened_on, small};
-use hill_store::{Refusal, Reply};
+use hill_store::{Refusal, Reply, Store};
 use sector_disk::{Device, FuseKind, MemoryDevice};
 use std::alloc::Global;
 use std::process::Abort;
@@ -61,16 +61,25 @@ fn steps_that_are_spent(rt: HostRuntime) {
 static TRIED: [&[u8]; 4] = [b"MOV 0,1", b"DAT 0,0", b"JMP 0", b"MVO 0"];
 
 /// A source is answered the same way if it is tried, in many steps too, and if it is submitted then. Without steps it isn't.
+fn expect_trial<D: Device>(
+    rt: &impl Abort,
+    store: &mut Store<D, &Refusing<Global>>,
+    source: &[u8],
+) {
+    let spent = tried_reply(store, source, Some(0));
+    let tried = tried_reply(store, source, None);
+    let within = tried_reply(store, source, Some(1_000_000));
+    let submitted = Some(submit(store, source));
+    let found = (spent, within, submitted);
+    expect_same(rt, &found, &(None, tried, tried), "replies");
+}
+
+/// So it is on the hill that this device opens to.
 fn expect_tried<D: Device + Drop>(rt: &impl Abort, memory: &Refusing<Global>, device: D) {
     let mut store = opened_on(rt, memory, device);
     for source in &TRIED {
-        let tried = tried_reply(&mut store, *source, None);
-        let within = tried_reply(&mut store, *source, Some(1_000_000));
-        let submitted = Some(submit(&mut store, *source));
-        expect_same(rt, &(within, submitted), &(tried, tried), "replies");
+        expect_trial(rt, &mut store, *source);
     }
-    let spent = tried_reply(&mut store, b"JMP 0", Some(0));
-    expect_same(rt, &spent, &None, "a trial without steps");
     drop(store);
 }
 

@@ -147,14 +147,19 @@ fn expect_first_row<D: Device>(
     expect_same(rt, &found, &due, "the first row");
 }
 
+/// The table of a hill of one warrior, on a hill of two that is created on this device.
+fn expect_rows_of_one<D: Device + Drop>(rt: &impl Abort, memory: &Refusing<Global>, device: D) {
+    let mut store = created_on(rt, memory, device);
+    expect_reply(rt, &mut store, b"MOV 0,1", FIRST);
+    expect_first_row(rt, memory, &store, 0, (None, 1));
+    expect_first_row(rt, memory, &store, 1, (Some((1, 0, 0)), 0));
+    drop(store);
+}
+
 /// A table takes one growth.
 #[test]
 fn of_a_table(rt: HostRuntime) {
     let memory = Refusing::new(rt.alloc());
-    let mut store = created_on(&rt, &memory, new_in(&rt, &memory));
-    expect_reply(&rt, &mut store, b"MOV 0,1", FIRST);
-    expect_first_row(&rt, &memory, &store, 0, (None, 1));
-    expect_first_row(&rt, &memory, &store, 1, (Some((1, 0, 0)), 0));
-    drop(store);
+    expect_rows_of_one(&rt, &memory, new_in(&rt, &memory));
     drop(memory);
 }

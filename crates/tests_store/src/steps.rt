@@ -118,14 +118,19 @@ fn expect_first<D: Device>(
     expect_same(rt, &found, &(FIRST, 0), "without memory");
 }
 
+/// The same of the first one to a hill that is created on this device.
+fn expect_first_on<D: Device + Drop>(rt: &impl Abort, memory: &Refusing<Global>, device: D) {
+    let mut store = created_on(rt, memory, device);
+    expect_first(rt, memory, &mut store);
+    drop(store);
+}
+
 /// The device has its memory from elsewhere. What is begun takes memory: `growths` refuses it.
 #[test]
 fn steps_without_memory(rt: HostRuntime) {
     let memory = Refusing::new(rt.alloc());
     let disk = Refusing::new(rt.alloc());
-    let mut store = created_on(&rt, &memory, new_in(&rt, &disk));
-    expect_first(&rt, &memory, &mut store);
-    drop(store);
+    expect_first_on(&rt, &memory, new_in(&rt, &disk));
     drop(disk);
     drop(memory);
 }

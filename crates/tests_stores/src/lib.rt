@@ -28,7 +28,7 @@ pub use calls::{
 pub use devices::{Counting, Tried, failing, lasting, stinting, within};
 pub use hill_store::{MigrateFault, MigrateSide, Reply};
 pub use hills::{SECTORS, blank, created, opened, refusal_to_create, refusal_to_open};
-pub use moves::{moved, moved_from, tried};
+pub use moves::{moved, tried};
 pub use old_format::narrowed;
 pub use sectors::{holds, put, sector, set_byte, with_zeros};
 pub use tables::{Numbers, count_rows, numbers_at, other_row, row_at};

@@ -27,21 +27,6 @@ pub fn moved<O: Device + Drop, D: Device + Drop, A: Allocator + Copy>(
     }
 }
 
-/// The same, without the old device.
-pub fn moved_from<O: Device + Drop, D: Device + Drop, A: Allocator + Copy>(
-    alloc: A,
-    old: O,
-    new: D,
-) -> Option<Store<D, A>> {
-    match moved(alloc, old, new) {
-        Some((old, store)) => {
-            drop(old);
-            Some(store)
-        }
-        None => None,
-    }
-}
-
 /// Two devices after a move from one to the other, and why there was none, if there was none.
 pub fn tried<O: Device + Drop, D: Device + Drop, A: Allocator + Copy>(
     alloc: A,
