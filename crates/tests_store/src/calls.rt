@@ -60,27 +60,27 @@ fn steps_that_are_spent(rt: HostRuntime) {
 /// Sources for a hill of two: two tie with both of its warriors, one loses to both, and one is refused.
 static TRIED: [&[u8]; 4] = [b"MOV 0,1", b"DAT 0,0", b"JMP 0", b"MVO 0"];
 
-/// A source is answered the same way if it is tried, in many steps too, and if it is submitted then. Without steps it isn't.
+/// A source is answered the same way if it is tried, in many steps too, and if it is submitted then.
 fn expect_trial<D: Device>(
     rt: &impl Abort,
     store: &mut Store<D, &Refusing<Global>>,
     source: &[u8],
 ) {
-    let spent = tried_reply(store, source, Some(0));
     let tried = tried_reply(store, source, None);
     let within = tried_reply(store, source, Some(1_000_000));
     let submitted = Some(submit(store, source));
-    let found = (spent, within, submitted);
-    expect_same(rt, &found, &(None, tried, tried), "replies");
+    expect_same(rt, &(within, submitted), &(tried, tried), "replies");
 }
 
-/// So it is on the hill that this device opens to.
+/// So it is on the hill that this device opens to. Without steps a source that is tried isn't answered.
 fn expect_tried<D: Device + Drop>(rt: &impl Abort, memory: &Refusing<Global>, device: D) {
     let mut store = opened_on(rt, memory, device);
     for source in &TRIED {
         expect_trial(rt, &mut store, *source);
     }
+    let spent = tried_reply(&mut store, b"JMP 0", Some(0));
     drop(store);
+    expect_same(rt, &spent, &None, "a trial without steps");
 }
 
 #[test]
