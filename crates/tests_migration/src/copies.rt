@@ -61,7 +61,8 @@ fn copied_to<D: Device, N: Device + Drop>(
     new
 }
 
-/// The new device of a copy, and how many growths of the store's memory were refused, as each of them was. One that is too small got none.
+/// A copy is made though each growth of the store's memory is refused: its device, and how many growths the copy asked for. A device that is
+/// too small gets none.
 fn copied_without<D: Device + Drop, N: Device + Drop>(
     rt: &impl Abort,
     memory: &Refusing<Global>,

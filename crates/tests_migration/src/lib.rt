@@ -1,11 +1,11 @@
 //! Tests of `Store::migrate` and `Store::copy_to` of `hill_store`, and of the public calls of `hill_look`: hills that are read and stay as
 //! they are.
 //!
-//! No crate stands on this one, so those are proved once, without tests, and the tests are proved over them:
+//! No crate stands on this one, so these are proved once, without tests, and the tests are proved over them:
 //!
 //! - `migrations`: a hill of two that is moved to another device, `refused`: devices between which none is moved, and `growths`: growths of
 //!   memory that are refused;
-//! - `moves`: a stop and a fault at each call of a move, and `twenty`: a stop at each of those of a full hill;
+//! - `moves`: a stop and a fault at each call of a move, and `twenty`: a stop at each call of a full hill's;
 //! - `copies`: a copy on another device;
 //! - `looks`: a hill that is looked at while it is written. `passing` is a source that goes from one device's sectors to the next one's while
 //!   it is read, and may fail at a read;

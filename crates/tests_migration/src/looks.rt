@@ -74,7 +74,7 @@ fn placing<'m>(rt: &impl Abort, memory: &'m Refusing<Global>) -> Passing<'m> {
     source_of(images, 1, Goes::Once)
 }
 
-/// A source of which each try finds the headers of another hill.
+/// A source in which each try finds the headers of another hill.
 fn changing<'m>(rt: &impl Abort, memory: &'m Refusing<Global>) -> Passing<'m> {
     let one = one_on(rt, memory);
     let two = stopped_at(rt, memory, &one, PLACING);

@@ -36,7 +36,7 @@ fn calls_of_both_devices(rt: HostRuntime) {
     drop(memory);
 }
 
-/// A device in the old format that holds what this one does, of which nothing is synced.
+/// A device in the old format that holds what this one does. Nothing of it is synced.
 fn unsynced<'m>(
     rt: &impl Abort,
     memory: &'m Refusing<Global>,

@@ -89,7 +89,7 @@ fn expect_old_refused<'m>(
     drop(new);
 }
 
-/// Sectors of a blank old device, and how it is refused. Harmed ones and those that were cut are in `bench/transcripts`.
+/// Sectors of a blank old device, and how it is refused. Harmed and cut ones are in `bench/transcripts`.
 static BLANK: [(u32, Refusal); 2] = [(1, Refusal::TooSmall), (8, Refusal::NotAHill)];
 
 #[test]

@@ -2,7 +2,7 @@
 //!
 //! Twenty warriors that lose at once come, and two that stay where they are. These win each of their rounds but those against one another, and
 //! the two that came last fall. So the hill has entries 1 to 18 in slots 0 to 17, entry 21 in slot 20 and entry 22 in slot 19. Slot 18 and
-//! some places of results hold what was written of those that fell.
+//! some places of results hold what was written of warriors that fell.
 
 use crate::expecting::{expect_same, expect_table, expect_true};
 use crate::hills::{blank_of, created_on, expect_fault, hill_on, image_of};

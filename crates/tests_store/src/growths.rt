@@ -36,7 +36,7 @@ fn expect_creation(rt: &impl Abort, memory: &Refusing<Global>, disk: &Refusing<G
     expect_same(rt, &found, &due(k, 5), "a creation");
 }
 
-/// The members, and an arena's cells, the list of those that were written, and two queues.
+/// The members, and an arena's cells, the list of the written ones, and two queues.
 #[test]
 fn each_growth_of_a_creation(rt: HostRuntime) {
     let memory = Refusing::new(rt.alloc());

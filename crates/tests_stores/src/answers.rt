@@ -35,10 +35,10 @@ pub static ONE: [Answered; 1] = [(b"MOV 0,1", FIRST)];
 /// Two warriors.
 pub static TWO: [Answered; 2] = [(b"MOV 0,1", FIRST), (b"JMP 0", SECOND)];
 
-/// Three warriors, of which the third falls.
+/// Three warriors. The third falls.
 pub static THREE: [Answered; 3] = [(b"MOV 0,1", FIRST), (b"JMP 0", SECOND), (b"DAT 0,0", THIRD)];
 
-/// The sources of a list, of which the third is refused and the fourth falls.
+/// The sources of a list. The third is refused, and the fourth falls.
 pub static SOURCES: [&[u8]; 4] = [b"MOV 0,1", b"JMP 0", b"", b"DAT 0,0"];
 
 /// The replies to them.

@@ -41,7 +41,8 @@ fn expect_empty<D: Device + Drop>(rt: &impl Abort, memory: &Refusing<Global>, de
     drop(store);
 }
 
-/// This growth of the device's memory is refused while a warrior is submitted, and the device was asked for its number of calls.
+/// A growth of the device's memory, the first of these numbers, is refused while a warrior is submitted. The other one is that of the calls
+/// for which the device was asked.
 fn expect_refused<D: Device + Drop>(
     rt: &impl Abort,
     memory: &Refusing<Global>,
