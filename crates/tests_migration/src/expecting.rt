@@ -13,43 +13,27 @@ pub(crate) fn expect_same<T: PartialEq + Debug>(rt: &impl Abort, found: &T, due:
     assert!(rt; *found == *due, "{note}: {found:?}, not {due:?}");
 }
 
-/// The rows of the table are these.
+/// The rows of the table are these, and the results that the store keeps are those of the matches.
 pub(crate) fn expect_table<D: Device, A: Allocator + Copy>(
     rt: &impl Abort,
-    store: &Store<D, A>,
+    store: &mut Store<D, A>,
     rows: &[Numbers],
 ) {
-    let found = (count_rows(store).ok(), other_row(store, rows));
-    expect_same(rt, &found, &(Some(rows.len()), None), "a table");
+    let found = (audit(store), count_rows(store).ok(), other_row(store, rows));
+    let due = (true, Some(rows.len()), None);
+    expect_same(rt, &found, &due, "an audit and a table");
 }
 
 /// The hill of two: both have two points, and the one that came first is one older.
 static TWO_ROWS: [Numbers; 2] = [(1, 2, 1), (2, 2, 0)];
 
-/// The rows of a store are those of the hill of two. It is dropped.
-pub(crate) fn expect_the_rows<D: Device + Drop, A: Allocator + Copy>(
-    rt: &impl Abort,
-    store: Store<D, A>,
-) {
-    expect_table(rt, &store, &TWO_ROWS);
-    drop(store);
-}
-
-/// The results that a store keeps are those of the matches.
-pub(crate) fn expect_true<D: Device, A: Allocator + Copy>(
-    rt: &impl Abort,
-    store: &mut Store<D, A>,
-) {
-    expect_same(rt, &audit(store), &true, "an audit");
-}
-
 /// The rows of a store are those of the hill of two, and its results those of the matches. It is dropped.
-pub(crate) fn expect_true_rows<D: Device + Drop, A: Allocator + Copy>(
+pub(crate) fn expect_the_rows<D: Device + Drop, A: Allocator + Copy>(
     rt: &impl Abort,
     mut store: Store<D, A>,
 ) {
-    expect_true(rt, &mut store);
-    expect_the_rows(rt, store);
+    expect_table(rt, &mut store, &TWO_ROWS);
+    drop(store);
 }
 
 /// These devices hold the same. They are dropped.

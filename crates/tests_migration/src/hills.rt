@@ -1,6 +1,6 @@
 //! Devices in memory, and hills on them, as the tests make them. What is to be done and isn't ends the test at once.
 
-use crate::expecting::{expect_same, expect_true_rows};
+use crate::expecting::{expect_same, expect_the_rows};
 use hill_store::{MigrateFault, Refusal, Store};
 use sector_disk::{Device, MemoryDevice};
 use std::alloc::{Allocator, Global};
@@ -122,6 +122,6 @@ pub(crate) fn moved_off<O: Device + Drop, D: Device + Drop>(
 ) -> O {
     let moved = moved(memory, old, new);
     let (old, store) = moved.expect(rt, "it is moved");
-    expect_true_rows(rt, store);
+    expect_the_rows(rt, store);
     old
 }

@@ -1,6 +1,6 @@
 //! A hill of two that is moved from a device in the old format to another one.
 
-use crate::expecting::{expect_equal, expect_same, expect_true_rows};
+use crate::expecting::{expect_equal, expect_same, expect_the_rows};
 use crate::hills::{blank_of, content_of, image_of, moved_off, new_in, old_device};
 use sector_disk::{Device, MemoryDevice};
 use std::alloc::Global;
@@ -103,7 +103,7 @@ fn moved_to<O: Device + Drop, D: Device + Drop>(
 /// The hill that this device opens to is that of two.
 fn expect_opens<D: Device + Drop>(rt: &impl Abort, memory: &Refusing<Global>, device: D) {
     let store = opened(memory, device);
-    expect_true_rows(rt, store.expect(rt, "it opens"));
+    expect_the_rows(rt, store.expect(rt, "it opens"));
 }
 
 /// Sectors of a new device that hold no header may hold anything. A slot that no warrior has keeps it.

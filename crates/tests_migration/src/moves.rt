@@ -1,6 +1,6 @@
 //! What a stop, or one fault, leaves of a hill of two that is moved to another device.
 
-use crate::expecting::{expect_same, expect_the_rows, expect_true_rows};
+use crate::expecting::{expect_same, expect_the_rows};
 use crate::hills::{blank_of, expect_fault, hill_on, image_of, moved_off, new_in, old_device};
 use hill_store::Refusal;
 use sector_disk::{FuseKind, MemoryDevice};
@@ -29,7 +29,7 @@ fn holds_the_hill<'m>(
 ) -> bool {
     match hill_on(rt, memory, lasting(device)) {
         Some(store) => {
-            expect_true_rows(rt, store);
+            expect_the_rows(rt, store);
             true
         }
         None => false,

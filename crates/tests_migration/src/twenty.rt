@@ -4,7 +4,7 @@
 //! the two that came last fall. So the hill has entries 1 to 18 in slots 0 to 17, entry 21 in slot 20 and entry 22 in slot 19. Slot 18 and
 //! some places of results hold what was written of warriors that fell.
 
-use crate::expecting::{expect_same, expect_table, expect_true};
+use crate::expecting::{expect_same, expect_table};
 use crate::hills::{blank_of, created_on, expect_fault, hill_on, image_of};
 use hill_store::{Reply, Store};
 use sector_disk::{Device, FuseKind, MemoryDevice};
@@ -77,8 +77,7 @@ fn old_device<'m>(
 
 /// The table of the store is that of the hill, and its results are those of the matches. It is dropped.
 fn expect_in<D: Device + Drop>(rt: &impl Abort, mut store: Store<D, &Refusing<Global>>) {
-    expect_true(rt, &mut store);
-    expect_table(rt, &store, &ROWS);
+    expect_table(rt, &mut store, &ROWS);
     drop(store);
 }
 

@@ -16,11 +16,6 @@ pub(crate) fn expect_same<T: PartialEq + Debug>(rt: &impl Abort, found: &T, due:
     assert!(rt; *found == *due, "{note}: {found:?}, not {due:?}");
 }
 
-/// `count` growths were refused.
-pub(crate) fn expect_refusals(rt: &impl Abort, memory: &Refusing<Global>, count: u64) {
-    expect_same(rt, &memory.refused(), &count, "growths refused");
-}
-
 /// The store answers this to a source.
 pub(crate) fn expect_reply<D: Device, A: Allocator + Copy>(
     rt: &impl Abort,

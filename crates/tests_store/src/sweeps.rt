@@ -96,7 +96,7 @@ fn hill_of<D: Device + Drop>(
     rt: &impl Abort,
     mut store: Store<D, &Refusing<Global>>,
 ) -> (Numbers, Numbers, u64) {
-    let (first, second) = rows_of(rt, &store);
+    let (first, second) = (row_at(rt, &store, 0), row_at(rt, &store, 1));
     let reply = submit(&mut store, b"DAT 0,0");
     drop(store);
     (first, second, entry_of(rt, reply))
@@ -111,11 +111,7 @@ fn entry_of(rt: &impl Abort, reply: Reply) -> u64 {
     .expect(rt, "a warrior is counted")
 }
 
-/// The two rows of a hill.
-fn rows_of<D: Device>(rt: &impl Abort, store: &Store<D, &Refusing<Global>>) -> (Numbers, Numbers) {
-    (row_at(rt, store, 0), row_at(rt, store, 1))
-}
-
+/// The row at a place of the table.
 fn row_at<D: Device>(
     rt: &impl Abort,
     store: &Store<D, &Refusing<Global>>,
@@ -189,7 +185,7 @@ fn expect_around_a_fault<D: Device + Drop>(
     due: (Numbers, Reply),
 ) {
     let mut store = opened_on(rt, memory, failed_once(rt, memory, device));
-    let (first, second) = rows_of(rt, &store);
+    let (first, second) = (row_at(rt, &store, 0), row_at(rt, &store, 1));
     let reply = submit(&mut store, b"JMP 0");
     drop(store);
     expect_same(

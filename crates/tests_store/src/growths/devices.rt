@@ -1,6 +1,6 @@
 //! Growths of a device that takes its memory from an allocator that refuses them.
 
-use crate::expecting::{answered_on, expect_refusals, expect_reply, expect_rows, expect_same};
+use crate::expecting::{answered_on, expect_reply, expect_rows, expect_same};
 use crate::hills::{created_on, new_in, opened_on, small};
 use hill_store::{Refusal, Reply};
 use sector_disk::Device;
@@ -30,7 +30,7 @@ fn expect_none_created<D: Device + Drop>(
             drop(answered_on(rt, memory, device, &ONE));
         }
     }
-    expect_refusals(rt, disk, 1);
+    expect_same(rt, &disk.refused(), &1, "growths refused");
 }
 
 /// The hill that is opened on a device has no warrior, and one is placed there.
@@ -71,7 +71,7 @@ fn expect_no_more<D: Device + Drop>(
     let mut store = created_on(rt, memory, device);
     disk.refuse(5, 1);
     expect_reply(rt, &mut store, b"MOV 0,1", FIRST);
-    expect_refusals(rt, disk, 0);
+    expect_same(rt, &disk.refused(), &0, "growths refused");
     drop(store);
 }
 

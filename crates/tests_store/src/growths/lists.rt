@@ -16,27 +16,16 @@ fn expect_list<D: Device + Drop>(
     memory: &Refusing<Global>,
     device: D,
     growth: (u64, u64),
-    replies: &[Reply],
+    due: (&[Reply], usize),
 ) {
-    let (k, refused) = growth;
+    let ((k, refused), (replies, placed)) = (growth, due);
     let mut store = created_on(rt, memory, device);
     memory.refuse(k, 1);
     expect_replies(rt, &mut store, &SOURCES, replies);
     expect_same(rt, &(k, memory.refused()), &(k, refused), "growths refused");
     memory.refuse(0, 0);
-    expect_rows(rt, &store, placed_in(replies));
-    expect_opened(rt, memory, close(store), placed_in(replies));
-}
-
-/// How many warriors were placed.
-fn placed_in(replies: &[Reply]) -> usize {
-    let mut count: usize = 0;
-    for reply in replies {
-        if matches!(*reply, Reply::Placed { .. }) {
-            count = count.saturating_add(1);
-        }
-    }
-    count
+    expect_rows(rt, &store, placed);
+    expect_opened(rt, memory, close(store), placed);
 }
 
 /// Whether there is no memory for the list of the replies.
@@ -58,15 +47,15 @@ fn expect_no_list<D: Device + Drop>(rt: &impl Abort, memory: &Refusing<Global>, 
 /// The reply to a second warrior that loses both rounds.
 const LOSES: Reply = placed!(2, 2, 0);
 
-/// Numbers of growths of the list, in their order, and the replies if one of them is refused: growths of the first source, of the device's
+/// Numbers of growths of the list, in their order, and the replies if one of them is refused, with the number of warriors placed: growths of the first source, of the device's
 /// writes for it, and so on. The third, without a line, takes none, and the fourth writes to a sector that was written before. A warrior
 /// that finds no memory leaves its entry and its place to the next. Nothing follows `Disk`.
-static GROWTHS: [(u64, &[Reply]); 5] = [
-    (10, &[Reply::Memory, FIRST, EMPTY, LOSES]),
-    (5, &[Reply::Disk]),
-    (10, &[FIRST, Reply::Memory, EMPTY, LOSES]),
-    (4, &[FIRST, Reply::Disk]),
-    (10, &[FIRST, SECOND, EMPTY, Reply::Memory]),
+static GROWTHS: [(u64, &[Reply], usize); 5] = [
+    (10, &[Reply::Memory, FIRST, EMPTY, LOSES], 2),
+    (5, &[Reply::Disk], 0),
+    (10, &[FIRST, Reply::Memory, EMPTY, LOSES], 2),
+    (4, &[FIRST, Reply::Disk], 1),
+    (10, &[FIRST, SECOND, EMPTY, Reply::Memory], 2),
 ];
 
 /// Each of `count` growths from growth `from` on is refused, and these are the replies. The growth after them is the answer.
@@ -75,11 +64,11 @@ fn expect_each(
     memory: &Refusing<Global>,
     from: u64,
     count: u64,
-    replies: &[Reply],
+    due: (&[Reply], usize),
 ) -> u64 {
     let behind = from.saturating_add(count);
     for k in from..behind {
-        expect_list(rt, memory, new_in(rt, memory), (k, 1), replies);
+        expect_list(rt, memory, new_in(rt, memory), (k, 1), due);
     }
     behind
 }
@@ -90,9 +79,9 @@ fn of_a_list(rt: HostRuntime) {
     let memory = Refusing::new(rt.alloc());
     expect_no_list(&rt, &memory, new_in(&rt, &memory));
     let mut k: u64 = 1;
-    for (growths, replies) in &GROWTHS {
-        k = expect_each(&rt, &memory, k, *growths, *replies);
+    for (growths, replies, placed) in &GROWTHS {
+        k = expect_each(&rt, &memory, k, *growths, (*replies, *placed));
     }
-    expect_list(&rt, &memory, new_in(&rt, &memory), (k, 0), &REPLIES);
+    expect_list(&rt, &memory, new_in(&rt, &memory), (k, 0), (&REPLIES, 2));
     drop(memory);
 }

@@ -1,6 +1,6 @@
 //! A device that lets a store take no memory after its first call.
 
-use crate::expecting::{expect_opened, expect_refusals, expect_reply, expect_same};
+use crate::expecting::{expect_opened, expect_reply, expect_same};
 use crate::hills::{blank_in, created_on};
 use hill_store::{Reply, Store};
 use sector_disk::{Device, MemoryDevice};
@@ -11,7 +11,7 @@ use tests_stores::{THREE, Tried, audit, close, fell, lasting, stinting, within};
 
 /// Growths are refused now, and none was asked for since.
 fn expect_stinted(rt: &impl Abort, memory: &Refusing<Global>) {
-    expect_refusals(rt, memory, 0);
+    expect_same(rt, &memory.refused(), &0, "growths refused");
     assert!(rt; Box::new(memory, 0_u8).is_err());
     memory.refuse(0, 0);
 }
@@ -53,7 +53,7 @@ fn none_behind_the_first_call_of_the_device(rt: HostRuntime) {
     let disk = Refusing::new(rt.alloc());
     let device = stinting(blank_in(&rt, &disk), &memory);
     let device = stinted(&rt, &memory, device);
-    expect_refusals(&rt, &memory, 0);
+    expect_same(&rt, &memory.refused(), &0, "growths refused");
     memory.refuse(0, 0);
     expect_opened(&rt, &memory, lasting(device), 2);
     drop(disk);
