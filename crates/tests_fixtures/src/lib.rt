@@ -4,7 +4,7 @@
 //!
 //! - this module and `plan`: `Refusing`, an allocator that refuses the growths that a test names, and counts them. A growth is one call of
 //!   `allocate`, so each larger block that a collection asks for is one;
-//! - `reading`, `writing` and `interrupted`: readers and writers that fail, are full, go on for long, or whose calls are each tried twice.
+//! - `reading`, `writing` and `interrupted`: readers and writers that fail, are full, or whose calls are each tried twice.
 //!   A stream of the system does so seldom, and not when a test wants it;
 //! - `warriors`: settings, and the instructions of warriors;
 //! - `earlier_hill`: the device of a hill in the old format;
@@ -28,7 +28,7 @@ mod writing;
 
 pub use interrupted::{Interrupted, one_by_one};
 use plan::Plan;
-pub use reading::{FailingReader, Padded, reader};
+pub use reading::{FailingReader, reader};
 use std::alloc::{AllocError, Allocator};
 use std::cell::Cell;
 pub use warriors::{DIE, IMP, Instr, Mode, Modifier, Op, RawSettings, SMALL, STAY, USUAL, dat};

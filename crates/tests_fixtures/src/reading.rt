@@ -1,4 +1,4 @@
-//! Readers that fail, or give many bytes.
+//! Readers that fail.
 
 ghost use Rattle.std.specs.Prelude.{Some};
 
@@ -37,30 +37,6 @@ impl Read for FailingReader<'_> {
         let (given, left) = self.left.split_at(count);
         buf[..count].copy_from_slice(given);
         self.left = left;
-        Ok(count)
-    }
-}
-
-/// A reader that gives some bytes, then one byte over and over, and then other bytes.
-#[derive(Drop)]
-pub struct Padded<'b> {
-    pub front: &'b [u8],
-    pub pad: u8,
-    pub pads: usize,
-    pub back: &'b [u8],
-}
-
-impl Read for Padded<'_> {
-    fn read(&mut self, buf: &mut [u8]) -> io::Result<usize> {
-        if !self.front.is_empty() {
-            return self.front.read(buf);
-        }
-        if self.pads == 0 {
-            return self.back.read(buf);
-        }
-        let count = self.pads.min(buf.len());
-        buf[..count].fill(self.pad);
-        self.pads -= count;
         Ok(count)
     }
 }

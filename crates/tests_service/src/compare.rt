@@ -1,18 +1,9 @@
-//! What tests compare, each by a function.
+//! How the tests compare.
 
+use std::fmt::Debug;
 use std::process::Abort;
 
-/// This holds.
-pub(crate) fn expect(rt: &impl Abort, holds: bool, note: &str) {
-    assert!(rt; holds, "{note}");
-}
-
-/// This text is the one that is due.
-pub(crate) fn expect_same(rt: &impl Abort, found: &str, due: &str) {
-    assert_eq!(rt; found, due);
-}
-
-/// These bytes are those that are due.
-pub(crate) fn expect_bytes(rt: &impl Abort, found: &[u8], due: &[u8]) {
-    assert_eq!(rt; found, due);
+/// What was found is what is due. If it isn't, the note says what was looked at.
+pub(crate) fn expect_same<T: PartialEq + Debug>(rt: &impl Abort, found: &T, due: &T, note: &str) {
+    assert!(rt; *found == *due, "{note}: {found:?}, not {due:?}");
 }

@@ -4,7 +4,6 @@ ghost use Rattle.koth_service.specs.Noted.{CameWithin, WentWithin};
 
 use koth_service::{Came, Drained, Went};
 use std::alloc::Global;
-use std::net::Ipv4Addr;
 
 /// At which millisecond something is done, and what.
 pub(crate) type Cue = (u64, Deed);
@@ -14,8 +13,6 @@ pub(crate) type Cue = (u64, Deed);
 pub(crate) enum Deed {
     /// It connects.
     Calls(u16),
-    /// It connects from another host of this machine: 127.0.0.2, if the number after the port is 2.
-    CallsFrom(u16, u8),
     /// It connects as a browser.
     Visits(u16),
     /// Bytes of it come.
@@ -24,8 +21,6 @@ pub(crate) enum Deed {
     Repeats(u16, &'static str, u32),
     /// Its bytes are at their end.
     Ends(u16),
-    /// It is gone.
-    Resets(u16),
     /// It takes this number of bytes more of its answers.
     Takes(u16, usize),
     /// The work on what is read next takes this number of milliseconds.
@@ -42,7 +37,6 @@ const PIECE: usize = 4096;
 /// A peer or a browser, from its call on.
 #[derive(Drop)]
 pub(crate) struct Caller {
-    pub(crate) host: Ipv4Addr,
     pub(crate) port: u16,
     pub(crate) is_browser: bool,
     pub(crate) number: Option<usize>,
@@ -51,7 +45,6 @@ pub(crate) struct Caller {
     /// How many of these bytes were read.
     read: usize,
     has_ended: bool,
-    is_gone: bool,
     /// How many bytes it takes still.
     takes: usize,
     /// What went out to it.
@@ -62,9 +55,8 @@ pub(crate) struct Caller {
 
 impl Caller {
     /// One that waits, of which nothing came yet.
-    pub(crate) fn new(alloc: Global, host: Ipv4Addr, port: u16, is_browser: bool) -> Caller {
+    pub(crate) fn new(alloc: Global, port: u16, is_browser: bool) -> Caller {
         Caller {
-            host,
             port,
             is_browser,
             number: None,
@@ -72,7 +64,6 @@ impl Caller {
             coming: Vec::new(alloc),
             read: 0,
             has_ended: false,
-            is_gone: false,
             takes: 0,
             heard: Vec::new(alloc),
             closed: None,
@@ -85,14 +76,9 @@ impl Caller {
             Deed::Says(_, text) => self.say(text, 1),
             Deed::Repeats(_, text, times) => self.say(text, times),
             Deed::Ends(_) => self.has_ended = true,
-            Deed::Resets(_) => self.is_gone = true,
             Deed::Takes(_, count) => self.takes = self.takes.saturating_add(count),
-            Deed::Calls(_)
-            | Deed::CallsFrom(_, _)
-            | Deed::Visits(_)
-            | Deed::Lasts(_)
-            | Deed::Fails
-            | Deed::FailsBrowser => {}
+            Deed::Calls(_) | Deed::Visits(_) | Deed::Lasts(_) | Deed::Fails | Deed::FailsBrowser =>
+                {}
         }
     }
 
@@ -105,9 +91,6 @@ impl Caller {
     pub(crate) fn give(&mut self, bytes: &mut [u8]) -> Came
         ensures { CameWithin result bytes.new }
     {
-        if self.is_gone {
-            return Came::Gone;
-        }
         let Some(coming) = self.coming.get(self.read..) else {
             return Came::Gone;
         };
@@ -127,9 +110,6 @@ impl Caller {
     pub(crate) fn hear(&mut self, bytes: &[u8]) -> Went
         ensures { WentWithin result bytes.now }
     {
-        if self.is_gone {
-            return Went::Gone;
-        }
         let count = self.takes.min(bytes.len());
         if count == 0 {
             return Went::Nothing;

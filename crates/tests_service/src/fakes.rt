@@ -2,7 +2,7 @@
 
 ghost use Rattle.std.specs.Prelude.{⊤};
 
-use crate::services::callers::{Caller, Cue, Deed};
+use crate::callers::{Caller, Cue, Deed};
 use koth_service::{Arrival, Came, Drained, Sockets, Went};
 use std::alloc::Global;
 use std::net::{Ipv4Addr, SocketAddr};
@@ -40,11 +40,6 @@ impl<'c> Fakes<'c> {
         self.callers.iter().find(|caller| caller.port == port)
     }
 
-    fn caller_mut(&mut self, port: u16) -> Option<&mut Caller> {
-        let place = self.callers.iter().position(|caller| caller.port == port)?;
-        self.callers.get_mut(place)
-    }
-
     /// The peer or the browser that is there under this number.
     fn seated(&mut self, is_browser: bool, number: usize) -> Option<&mut Caller> {
         let place = self.callers.iter().position(|caller| {
@@ -72,30 +67,24 @@ impl<'c> Fakes<'c> {
 
     fn act(&mut self, deed: Deed) {
         match deed {
-            Deed::Calls(port) => self.call(Ipv4Addr::LOCALHOST, port, false),
-            Deed::CallsFrom(port, host) => self.call(Ipv4Addr::new(127, 0, 0, host), port, false),
-            Deed::Visits(port) => self.call(Ipv4Addr::LOCALHOST, port, true),
+            Deed::Calls(port) => self.call(port, false),
+            Deed::Visits(port) => self.call(port, true),
             Deed::Lasts(time) => self.lasts = time,
             Deed::Fails => self.fails = self.fails.saturating_add(1),
             Deed::FailsBrowser => self.browser_fails = self.browser_fails.saturating_add(1),
             Deed::Says(port, _)
             | Deed::Repeats(port, _, _)
             | Deed::Ends(port)
-            | Deed::Resets(port)
             | Deed::Takes(port, _) => self.act_as(port, deed),
         }
     }
 
-    /// The work on what was read is done, and what is due by then happens.
-    fn work(&mut self) {
-        self.time = self.time.saturating_add(self.lasts);
-        self.lasts = 0;
-        self.happen();
-    }
-
     /// The caller from this port does this.
     fn act_as(&mut self, port: u16, deed: Deed) {
-        if let Some(caller) = self.caller_mut(port) {
+        let Some(place) = self.callers.iter().position(|caller| caller.port == port) else {
+            return;
+        };
+        if let Some(caller) = self.callers.get_mut(place) {
             caller.act(deed);
         }
     }
@@ -105,16 +94,14 @@ impl<'c> Fakes<'c> {
         match self.callers.get_mut(place) {
             Some(caller) => {
                 caller.waits = false;
-                Arrival::Peer(SocketAddr::from((caller.host, caller.port)))
+                Arrival::Peer(SocketAddr::from((Ipv4Addr::LOCALHOST, caller.port)))
             }
             None => Arrival::Nobody,
         }
     }
 
-    fn call(&mut self, host: Ipv4Addr, port: u16, is_browser: bool) {
-        let _ = self
-            .callers
-            .push(Caller::new(self.alloc, host, port, is_browser));
+    fn call(&mut self, port: u16, is_browser: bool) {
+        let _ = self.callers.push(Caller::new(self.alloc, port, is_browser));
     }
 
     /// The place of the first one that waits, among peers or among browsers.
@@ -173,7 +160,10 @@ impl Sockets for Fakes<'_> {
             None => Came::Gone,
         };
         if let Came::Bytes(_) = came {
-            self.work();
+            // the work on what was read is done, and what is due by then happens
+            self.time = self.time.saturating_add(self.lasts);
+            self.lasts = 0;
+            self.happen();
         }
         came
     }

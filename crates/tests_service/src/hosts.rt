@@ -1,0 +1,115 @@
+//! A host that writes what it is told.
+
+ghost use Rattle.std.specs.Prelude.{◌≡◌, [], ◌∷◌, codes};
+ghost use Rattle.koth_http.specs.declared.target.Page.TheVariants as pages;
+
+use crate::hills::{Fuse, Hill, Memory};
+use hill_store::{Reply, Store};
+use koth_http::Page;
+use koth_service::{Event, Host, LogWrite};
+use std::alloc::AllocError;
+use std::cell::Cell;
+use std::io::Write;
+use std::net::SocketAddr;
+
+/// It writes a line for each event, with the peer's port before it, and opens the hill again as often as it may.
+#[derive(Drop)]
+pub(crate) struct Clerk<'m> {
+    pub(crate) memory: Memory<'m>,
+    pub(crate) openings: Cell<u32>,
+}
+
+/// The hill can't be opened again.
+#[derive(Clone, Copy, Debug, PartialEq)]
+pub(crate) struct Shut;
+
+impl<'m> Host<Fuse<'m>, Memory<'m>> for Clerk<'m> {
+    type Fault = Shut;
+
+    ghost shows = { λ _ _. record { names = codes "here.example" ∷ []; pages = λ page _. page ≡ pages.Hill; steps = 1000000 } };
+
+    fn reopen(&self, device: Fuse<'m>) -> Result<Hill<'m>, Shut> {
+        let openings = self.openings.get();
+        if openings == 0 {
+            return Err(Shut);
+        }
+        self.openings.set(openings.saturating_sub(1));
+        match Store::open(self.memory, device) {
+            Ok(store) => Ok(store),
+            Err(_) => Err(Shut),
+        }
+    }
+
+    fn names(&self) -> &[&str] {
+        &["here.example"]
+    }
+
+    fn steps(&self) -> u64 {
+        1_000_000
+    }
+
+    /// The page of the hill says how many are on it. No round has one.
+    fn page(
+        &self,
+        store: &Hill<'m>,
+        page: Page,
+    ) -> Result<Option<Vec<u8, Memory<'m>>>, AllocError> {
+        match page {
+            Page::Hill => {
+                let text = format!(in self.memory; "{} here\n", store.hill().len())?;
+                Ok(Some(text.into_bytes()))
+            }
+            Page::Round { .. } => Ok(None),
+        }
+    }
+
+    fn tell<E: LogWrite>(&self, peer: SocketAddr, event: Event<'_>, errors: &mut E) {
+        if let Ok(line) = line_of(self.memory, peer.port(), event) {
+            let _ = errors.write(line.as_bytes());
+        }
+    }
+}
+
+fn line_of<'m>(
+    memory: Memory<'m>,
+    port: u16,
+    event: Event<'_>,
+) -> Result<String<Memory<'m>>, AllocError> {
+    match event {
+        Event::Connected => told(memory, port, "connected\n"),
+        Event::Answered(reply) => answered(memory, port, reply),
+        Event::Refused => told(memory, port, "refused\n"),
+        Event::Ended(how) => format!(in memory; "{} {:?}\n", port, how),
+        Event::Asked {
+            line,
+            status,
+            bytes,
+        } => asked(memory, port, line, status, bytes),
+    }
+}
+
+/// A line of this text about the peer at a port.
+fn told<'m>(memory: Memory<'m>, port: u16, text: &str) -> Result<String<Memory<'m>>, AllocError> {
+    format!(in memory; "{} {}", port, text)
+}
+
+fn answered(memory: Memory<'_>, port: u16, reply: Reply) -> Result<String<Memory<'_>>, AllocError> {
+    let line = koth_session::line_of(&reply);
+    told(
+        memory,
+        port,
+        str::from_utf8(line.as_slice()).unwrap_or("\n"),
+    )
+}
+
+fn asked<'m>(
+    memory: Memory<'m>,
+    port: u16,
+    line: &[u8],
+    status: &[u8],
+    bytes: usize,
+) -> Result<String<Memory<'m>>, AllocError> {
+    let line = str::from_utf8(line).unwrap_or("");
+    let status = str::from_utf8(status).unwrap_or("");
+    format!(in memory; "{} {}: {} {}\n", port, line, status, bytes)
+}
