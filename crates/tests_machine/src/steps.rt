@@ -68,11 +68,13 @@ fn check_challenger(
 }
 
 /// Cycles and rounds, the steps of a challenge on a hill of two, and its results: those that the older won, that the younger won, and ties.
-type Steps = (u32, u32, u32, [(u16, u16, u16); 2]);
+type Steps = (u32, u32, u32, Counts, Counts);
+
+type Counts = (u16, u16, u16);
 
 fn check_steps(rt: &impl Abort, memory: &Refusing<Global>, due: &Steps) {
-    let (cycles, rounds, steps, results) = *due;
-    let bouts = [bout(results[0]), bout(results[1])];
+    let (cycles, rounds, steps, first, second) = *due;
+    let bouts = [bout(first), bout(second)];
     let settings = settings_of(rt, small!(cycles: cycles, rounds: rounds));
     let mut arena = Arena::new(memory, &settings).expect(rt, "there is memory");
     let mut hill = hill_of_two(rt, memory, settings);
@@ -81,7 +83,7 @@ fn check_steps(rt: &impl Abort, memory: &Refusing<Global>, due: &Steps) {
     drop(arena);
 }
 
-fn bout(counts: (u16, u16, u16)) -> Bout {
+fn bout(counts: Counts) -> Bout {
     let (older_wins, younger_wins, ties) = counts;
     Bout {
         older_wins,
@@ -91,10 +93,10 @@ fn bout(counts: (u16, u16, u16)) -> Bout {
 }
 
 static STEPS: [Steps; 4] = [
-    (100, 2, 3, [(1, 1, 0), (2, 0, 0)]),
-    (1_000_000, 3, 7, [(1, 2, 0), (3, 0, 0)]),
-    (300_000, 7, 7, [(3, 4, 0), (7, 0, 0)]),
-    (500_000, 3, 5, [(1, 2, 0), (3, 0, 0)]),
+    (100, 2, 3, (1, 1, 0), (2, 0, 0)),
+    (1_000_000, 3, 7, (1, 2, 0), (3, 0, 0)),
+    (300_000, 7, 7, (3, 4, 0), (7, 0, 0)),
+    (500_000, 3, 5, (1, 2, 0), (3, 0, 0)),
 ];
 
 /// Of two that lose at once the one that moves first loses. A step has 1,000,000 cycles of each side at most, and the last one only judges.

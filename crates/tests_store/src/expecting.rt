@@ -7,9 +7,7 @@ use std::alloc::{Allocator, Global};
 use std::fmt::Debug;
 use std::process::Abort;
 use tests_fixtures::Refusing;
-use tests_stores::{
-    Answered, Counting, Numbers, close, count_rows, other_row, submit, submit_all, within,
-};
+use tests_stores::{Counting, Numbers, close, count_rows, other_row, submit, submit_all, within};
 
 /// What was found is what is due. If it isn't, the note says what was looked at.
 pub(crate) fn expect_same<T: PartialEq + Debug>(rt: &impl Abort, found: &T, due: &T, note: &str) {
@@ -31,7 +29,7 @@ pub(crate) fn answered_on<D: Device + Drop, A: Allocator + Copy>(
     rt: &impl Abort,
     alloc: A,
     device: D,
-    answers: &[Answered],
+    answers: &[(&[u8], Reply)],
 ) -> D {
     let mut store = created_on(rt, alloc, device);
     for (source, reply) in answers {
@@ -44,7 +42,7 @@ pub(crate) fn answered_on<D: Device + Drop, A: Allocator + Copy>(
 pub(crate) fn answered<'m>(
     rt: &impl Abort,
     memory: &'m Refusing<Global>,
-    answers: &[Answered],
+    answers: &[(&[u8], Reply)],
 ) -> MemoryDevice<&'m Refusing<Global>> {
     within(answered_on(rt, memory, new_in(rt, memory), answers))
 }
