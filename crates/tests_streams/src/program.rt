@@ -1,6 +1,6 @@
-//! The program, as the tests run it.
+//! The program, as the tests run it: always over the same types, so that it is compiled once.
 
-use crate::compare::{expect_count, expect_same, expect_status};
+use crate::streams::Signalled;
 use koth_server::{LogWrite, View, run};
 use std::alloc::{Allocator, Global};
 use std::fs::File;
@@ -9,18 +9,51 @@ use std::net::Net;
 use std::process::Abort;
 use std::random::RandomSource;
 use std::rt::{Clock, Files};
+use tests_fixtures::{FULL, FailingReader, FullWriter, Refusing, reader, writer};
 
 /// What the program takes of its host, and the tests too.
 pub(crate) trait Host: Files<File = File> + Net + Clock + RandomSource + AllocGlobal {}
 
 impl Host for HostRuntime {}
 
-/// The outcome of a run.
+/// The memory of a run, of which growths are refused.
+pub(crate) type Memory = Refusing<Global>;
+
+/// The streams of a run.
 #[derive(Drop)]
-pub(crate) struct Ran {
-    pub status: u8,
-    pub output: Vec<u8>,
+pub(crate) struct Streams<'b> {
+    pub input: Signalled<FailingReader<'b>>,
+    pub output: Signalled<FullWriter>,
     pub errors: Vec<u8>,
+}
+
+/// What a run writes, how its errors begin, its status, and how many growths it is refused.
+#[derive(Clone, Copy)]
+pub(crate) struct Due<'d> {
+    pub output: &'d [u8],
+    pub errors: &'d str,
+    pub status: u8,
+    pub refused: u64,
+}
+
+/// Streams of which the first two are these.
+pub(crate) fn streams_of<'b>(
+    rt: &impl AllocGlobal,
+    input: FailingReader<'b>,
+    output: FullWriter,
+    signals: bool,
+) -> Streams<'b> {
+    Streams {
+        input: Signalled::new(input, signals),
+        output: Signalled::new(output, signals),
+        errors: Vec::new(rt.alloc()),
+    }
+}
+
+/// Streams of which none fails, with this input.
+pub(crate) fn whole<'b>(rt: &impl AllocGlobal, input: &'b str) -> Streams<'b> {
+    let output = writer(rt.alloc(), usize::MAX, usize::MAX, FULL[0]);
+    streams_of(rt, reader(input.as_bytes(), usize::MAX, 0), output, false)
 }
 
 /// The words of a command line, in which blanks stand between them.
@@ -37,7 +70,7 @@ fn add_word(rt: &(impl Abort + AllocGlobal), words: &mut Vec<String>, word: &str
     words.push(word).expect(rt, "there is memory");
 }
 
-/// What a run of the program with these words leaves with.
+/// What a run of the program with these words leaves with. They are parsed on the heap, of which nothing is refused.
 fn status_of<A: Allocator + Copy>(
     rt: &(impl Files<File = File> + Net + Clock + RandomSource),
     heap: Global,
@@ -50,53 +83,75 @@ fn status_of<A: Allocator + Copy>(
     run(rt, heap, alloc, words, View::Plain, input, output, errors)
 }
 
-/// The same with the words of this line, which are on the tests' own memory.
-pub(crate) fn status_on<A: Allocator + Copy>(
+/// The status of a run with the words of this line, of which growth `k` is refused, and how many were refused.
+pub(crate) fn outcome(
     rt: &(impl Abort + Host),
-    alloc: A,
+    memory: &Memory,
+    k: u64,
     line: &str,
-    input: &mut impl Read,
-    output: &mut impl Write,
-    errors: &mut impl LogWrite,
-) -> u8 {
+    streams: &mut Streams<'_>,
+) -> (u8, u64) {
     let words = words_of(rt, line);
-    let heap = rt.alloc();
-    let status = status_of(rt, heap, alloc, words.as_slice(), input, output, errors);
+    memory.refuse(k, 1);
+    let status = status_of(
+        rt,
+        rt.alloc(),
+        memory,
+        words.as_slice(),
+        &mut streams.input,
+        &mut streams.output,
+        &mut streams.errors,
+    );
     drop(words);
-    status
+    (status, memory.refused())
 }
 
-/// A run of the program with these words. What the program takes besides its words is taken from this allocator.
-pub(crate) fn run_on<A: Allocator + Copy>(
+/// Such a run does what is due. How many reads there were is the answer.
+pub(crate) fn check_over(
     rt: &(impl Abort + Host),
-    alloc: A,
+    memory: &Memory,
+    k: u64,
     line: &str,
-    input: &mut impl Read,
-) -> Ran {
-    let mut output = Vec::new(rt.alloc());
-    let mut errors = Vec::new(rt.alloc());
-    let status = status_on(rt, alloc, line, input, &mut output, &mut errors);
-    Ran {
-        status,
-        output,
-        errors,
-    }
+    mut streams: Streams<'_>,
+    due: &Due<'_>,
+) -> u64 {
+    let (status, refused) = outcome(rt, memory, k, line, &mut streams);
+    let is_due = status == due.status && refused == due.refused;
+    expect(rt, is_due, line, k, "another status, or other refusals");
+    expect_written(rt, &streams, line, k, due);
+    let reads = streams.input.stream.reads;
+    drop(streams);
+    reads
 }
 
-/// The text of these bytes, or nothing if they are not UTF-8.
-pub(crate) fn text_in(bytes: &Vec<u8>) -> &str {
-    str::from_utf8(bytes.as_slice()).unwrap_or("")
+/// The same with this input, over streams of which none fails.
+pub(crate) fn check(
+    rt: &(impl Abort + Host),
+    memory: &Memory,
+    k: u64,
+    line: &str,
+    input: &str,
+    due: &Due<'_>,
+) {
+    check_over(rt, memory, k, line, whole(rt, input), due);
 }
 
-/// These bytes are this text.
-pub(crate) fn expect_text(rt: &impl Abort, bytes: &Vec<u8>, text: &str) {
-    expect_same(rt, text_in(bytes), text);
-    expect_count(rt, bytes.len(), text.len(), text);
+/// A run wrote what is due.
+fn expect_written(rt: &impl Abort, streams: &Streams<'_>, line: &str, k: u64, due: &Due<'_>) {
+    let output = streams.output.stream.taken.as_slice();
+    let errors = streams.errors.as_slice();
+    let begins = errors.starts_with(due.errors.as_bytes());
+    let is_told = begins && errors.is_empty() == due.errors.is_empty();
+    expect(rt, output == due.output, line, k, text_in(output));
+    expect(rt, is_told, line, k, text_in(errors));
 }
 
-/// A run wrote nothing to standard error, and had status 0.
-pub(crate) fn expect_done(rt: &impl Abort, ran: &Ran) {
-    let text = text_in(&ran.output);
-    expect_count(rt, ran.errors.len(), 0, text);
-    expect_status(rt, ran.status, 0, text);
+/// This holds of the run with these words, of which growth `k` was refused.
+pub(crate) fn expect(rt: &impl Abort, holds: bool, line: &str, k: u64, found: &str) {
+    assert!(rt; holds, "{line} at {k}: {found}");
+}
+
+/// The text of these bytes, or a remark if they are not UTF-8.
+pub(crate) fn text_in(bytes: &[u8]) -> &str {
+    str::from_utf8(bytes).unwrap_or("bytes that are no text")
 }
