@@ -1,4 +1,4 @@
-//! Calls of which the host seldom gives what is tried: the seed that random bytes give, and arguments that are refused although all are text.
+//! The seed that random bytes give, and what is told if arguments are refused of which none is at fault.
 
 use koth_server::{drawn_seed, refuse_arguments};
 use std::alloc::Global;
@@ -51,7 +51,7 @@ fn seeds_of_random_bytes(rt: HostRuntime) {
 /// What is told if no argument is at fault, and if there is no memory to say which one is.
 const NO_TEXT: &str = "error: an argument is not UTF-8\n\nFor more information, try '--help'.\n";
 
-/// The arguments of this program, which are all text, are refused if growth `k` is.
+/// What is told of the arguments of this program, which are all text, if growth `k` is refused.
 fn check_arguments(rt: &(impl Abort + Env + AllocGlobal), memory: &Refusing<Global>, k: u64) {
     let mut errors = Vec::new(rt.alloc());
     memory.refuse(k, 1);
