@@ -81,15 +81,14 @@ impl<'c> Pieces<'c> {
 
     /// The next piece comes, if there is one.
     fn turn(&mut self) -> io::Result<()> {
-        let Some((piece, pieces)) = self.pieces.split_first() else {
+        let Some(piece) = self.pieces.get(self.came).copied() else {
             return Ok(());
         };
         if self.lines.get() < self.came {
             // It would wait for ever.
             return Err(io::Error::from(ErrorKind::TimedOut));
         }
-        self.left = *piece;
-        self.pieces = pieces;
+        self.left = piece;
         self.came = self.came.saturating_add(1);
         Ok(())
     }
