@@ -106,7 +106,8 @@ impl Reason {
             Reason::NoRoom => "no more can be written",
             Reason::Late => "there was no answer in time",
             Reason::TooShort => "it is too short for a hill; is it the right file?",
-            Reason::NotEmpty => "it isn't empty; --overwrite makes a hill of it all the same",
+            Reason::NotEmpty =>
+                "it isn't empty; koth create --overwrite makes a hill of it all the same",
             Reason::NameInUse => "something has this name; take a new one",
             Reason::NoHill => "it holds no hill",
             Reason::OldHill => {
