@@ -72,7 +72,7 @@ pub(crate) fn settings_word(fault: SettingsFault) -> &'static str
     }
 }
 
-/// The range of a setting as a text, and what is said behind it.
+/// The range of a setting as a text, and what is said after it, if anything is.
 macro_rules! range {
     ($setting:ident $(, $more:literal)?) => {
         range_of!($setting, range $(, $more)?)

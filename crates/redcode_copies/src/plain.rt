@@ -36,7 +36,7 @@ fn has_counter<C: Counters>(counters: &C, tokens: &[Token<'_>]) -> bool
     false
 }
 
-/// The copy of a line, as it reads in a copy of it, in which no counter follows an `&`, within further copies.
+/// The copy of a line within the copies of `counters`. `copy` is how the line reads so far, and no counter follows an `&` in it.
 pub fn plain_copy<'s, A: Allocator + Copy, C: Counters>(
     alloc: A,
     region: &'s Bump<A>,
