@@ -26,7 +26,7 @@ pub(crate) enum Step {
     Refused(u64),
 }
 
-/// A new device of which these calls are made, without a refusal.
+/// A new device after these calls, without a refusal.
 pub(crate) fn made<'m>(
     rt: &impl Abort,
     memory: &'m Refusing<Global>,

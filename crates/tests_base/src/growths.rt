@@ -18,7 +18,7 @@ fn expect_refusals(rt: &impl Abort, memory: &Refusing<Global>, count: u64) {
     expect_count(rt, memory.refused(), count, "refusals");
 }
 
-/// A device is there of which these calls can be made, or `refusals` growths were refused.
+/// A device is there and takes these calls, or `refusals` growths were refused.
 fn expect_either(
     rt: &impl Abort,
     memory: &Refusing<Global>,
@@ -97,7 +97,7 @@ fn write_number<D: Device>(rt: &impl Abort, device: &mut D, number: u8) {
     }
 }
 
-/// Nine writes of which this growth is refused, or, if `refusals` is 0, none.
+/// Nine writes without this growth, or, if `refusals` is 0, with all of them.
 fn write_nine<D: Device>(
     rt: &impl Abort,
     memory: &Refusing<Global>,
@@ -147,7 +147,7 @@ fn call_without_memory(rt: &impl Abort, memory: &Refusing<Global>, device: &mut 
     set(rt, device, 1, 3);
 }
 
-/// A read and two syncs of a device whose second sector holds 3, of which the last fails.
+/// A read and two syncs of a device whose second sector holds 3. The last sync fails.
 static FUSED: [Step; 3] = [Step::Read(1, 3), Step::Sync, Step::Refused(0)];
 
 /// These calls are made of the device within one whose third call fails.

@@ -70,7 +70,7 @@ pub(crate) fn ended<D: Device>(device: &mut D, call: Call) -> Result<(), Fault> 
     }
 }
 
-/// A call of a device ends so, after these calls of the file, of which the one of this number fails. A fault is counted.
+/// A call of a device ends so after these calls of the file. The one of this number fails. A fault is counted.
 fn expect_ended<D: Device, R: Abort>(
     on: &WatchedFiles<'_, R>,
     device: &mut D,

@@ -83,7 +83,7 @@ fn got<R: Files<File = File> + AllocGlobal>(
     }
 }
 
-/// This comes of it, after these calls, of which the one of this number fails.
+/// This comes of it after these calls. The one of this number fails.
 fn expect_got<R: Files<File = File> + AllocGlobal + Abort>(
     on: &WatchedFiles<'_, R>,
     path: &str,

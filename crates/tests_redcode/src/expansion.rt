@@ -9,7 +9,7 @@ use std::process::Abort;
 use tests_fixtures::{USUAL, rows};
 use war_types::{RawSettings, Settings};
 
-/// Settings of which no two numbers that a source may name are the same.
+/// Settings in which each number that a source may name is another.
 const DISTINCT: RawSettings = RawSettings {
     processes: 8001,
     distance: 101,

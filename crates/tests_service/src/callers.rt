@@ -1,4 +1,4 @@
-//! What peers and browsers do, and those of them who call at sockets of no system.
+//! What peers and browsers do, and those that call at sockets of no system.
 
 ghost use Rattle.koth_service.specs.Noted.{CameWithin, WentWithin};
 
@@ -54,7 +54,7 @@ pub(crate) struct Caller {
 }
 
 impl Caller {
-    /// One that waits, of which nothing came yet.
+    /// One that waits and has sent nothing yet.
     pub(crate) fn new(alloc: Global, port: u16, is_browser: bool) -> Caller {
         Caller {
             port,

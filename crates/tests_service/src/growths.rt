@@ -111,7 +111,7 @@ fn expect_table<'m>(
     drop(store);
 }
 
-/// A session on an empty hill, of which growth `k` is refused, ends so, and `refused` were refused.
+/// A session on an empty hill without growth `k` ends so, and `refused` were refused.
 fn expect_ending(
     rt: &(impl Abort + AllocGlobal),
     ground: Ground<'_>,

@@ -44,7 +44,7 @@ static A_LONG_SUBMISSION_DUE: [Due; 4] = [
     Due::Told("2 ", &["connected", "By(EndOfInput)"]),
 ];
 
-/// An accept that fails is tried again after 100 milliseconds. A third peer, of which two may be at once, waits until one of them was let
+/// An accept that fails is tried again after 100 milliseconds. A third peer, where two may be at once, waits until one of them was let
 /// go.
 static ARRIVALS: [Cue; 13] = [
     (0, Deed::Fails),

@@ -68,7 +68,7 @@ fn expect_alone(
     drop(memory);
 }
 
-/// Commands, of which each but the last is answered by a line.
+/// Commands. Each but the last is answered by a line.
 static COMMANDS: [&[u8]; 5] = [
     b"SHOW\n",
     b"SUBMIT\nMOV 0,1\n.\n",
@@ -221,7 +221,7 @@ fn expect_failed<'m>(rt: &(impl Abort + AllocGlobal), memory: Memory<'m>, store:
 }
 
 /// A device that fails after these calls leaves `count` warriors on the hill that is opened on it.
-fn expect_behind(rt: &(impl Abort + AllocGlobal), calls: u64, kind: FuseKind, count: usize) {
+fn expect_after(rt: &(impl Abort + AllocGlobal), calls: u64, kind: FuseKind, count: usize) {
     let memory = Refusing::new(rt.alloc());
     let mut store = empty_hill(rt, failing(&memory, calls, kind));
     expect_failed(rt, &memory, &mut store);
@@ -236,7 +236,7 @@ fn expect_behind(rt: &(impl Abort + AllocGlobal), calls: u64, kind: FuseKind, co
 #[test]
 fn a_device_that_fails(rt: HostRuntime) {
     for calls in 5..12 {
-        expect_behind(&rt, calls, FuseKind::FailLost, usize::from(calls == 11));
-        expect_behind(&rt, calls, FuseKind::FailKept, usize::from(calls >= 10));
+        expect_after(&rt, calls, FuseKind::FailLost, usize::from(calls == 11));
+        expect_after(&rt, calls, FuseKind::FailKept, usize::from(calls >= 10));
     }
 }

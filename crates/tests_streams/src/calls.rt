@@ -1,4 +1,4 @@
-//! The seed that random bytes give, and what is told if arguments are refused of which none is at fault.
+//! The seed that random bytes give, and what is told if arguments without a fault are refused.
 
 use koth_server::{drawn_seed, refuse_arguments};
 use std::alloc::Global;

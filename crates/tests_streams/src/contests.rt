@@ -41,7 +41,7 @@ static SOURCES: [(&str, &[u8]); 3] = [
     ("field.growths/dat.red", b"DAT 0\n"),
 ];
 
-/// A contest, of which growth `k` is refused. Whether it took no more growths is the answer.
+/// A contest without growth `k`. Whether it took no more growths is the answer.
 fn is_done(rt: &(impl Abort + Host), memory: &Memory, k: u64, contest: &Contest) -> bool {
     let mut streams = whole(rt, contest.input);
     let (status, refused) = outcome(rt, memory, k, contest.line, &mut streams);

@@ -4,7 +4,7 @@ use crate::program::{Due, Host, Memory, check_over, expect, streams_of};
 use std::process::Abort;
 use tests_fixtures::{FULL, Full, Refusing, reader, writer};
 
-/// A source of six bytes, none of which is an instruction.
+/// A source of six bytes without an instruction.
 const SOURCE: &[u8] = b"\n\n\n\n\n\n";
 
 /// What is due for it.

@@ -24,9 +24,9 @@ const PLACED: &str = "PLACED 2 2 2\n";
 /// A command and its input, and what it writes if it finds its memory. Its status is 0 then.
 #[derive(Clone, Copy)]
 struct Command {
-    /// Growths of which one that is refused is told as a fault.
+    /// Growths whose refusal is told as a fault.
     faults: u64,
-    /// These, and those after them, of which one that is refused is answered as `MEMORY`.
+    /// These, and the ones after them, whose refusal is answered as `MEMORY`.
     answers: u64,
     /// These, and those after them, without which the answer stands alone.
     growths: u64,
@@ -86,7 +86,7 @@ static COMMANDS: [Command; 14] = commands! {
     1 + 6 + 1 + 2 + 5, 0, 0 => "koth create growing.hill --like growths.hill", "" => "CREATED\n";
 };
 
-/// What is due of a command of which growth `k` is refused.
+/// What is due of a command without growth `k`.
 fn without(command: &Command, k: u64) -> Due<'static> {
     let (output, errors, status) = if k < command.faults {
         ("", "MEMORY", 4)
@@ -162,7 +162,7 @@ fn check_done(
     check(rt, memory, k, line, input, &due);
 }
 
-/// A command of which growth `k` is refused leaves everything as it was. With memory it is done then.
+/// A command without growth `k` leaves everything as it was. With memory it is done then.
 fn check_refused(
     rt: &(impl Abort + Host),
     memory: &Memory,

@@ -16,7 +16,7 @@ pub(crate) trait Host: Files<File = File> + Net + Clock + RandomSource + AllocGl
 
 impl Host for HostRuntime {}
 
-/// The memory of a run, of which growths are refused.
+/// The memory of a run, which refuses growths.
 pub(crate) type Memory = Refusing<Global>;
 
 /// The streams of a run.
@@ -36,7 +36,7 @@ pub(crate) struct Due<'d> {
     pub refused: u64,
 }
 
-/// Streams of which the first two are these.
+/// Streams that begin with these two.
 pub(crate) fn streams_of<'b>(
     rt: &impl AllocGlobal,
     input: FailingReader<'b>,
@@ -50,7 +50,7 @@ pub(crate) fn streams_of<'b>(
     }
 }
 
-/// Streams of which none fails, with this input.
+/// Streams that don't fail, with this input.
 pub(crate) fn whole<'b>(rt: &impl AllocGlobal, input: &'b str) -> Streams<'b> {
     let output = writer(rt.alloc(), usize::MAX, usize::MAX, FULL[0]);
     streams_of(rt, reader(input.as_bytes(), usize::MAX, 0), output, false)
@@ -70,7 +70,7 @@ fn add_word(rt: &(impl Abort + AllocGlobal), words: &mut Vec<String>, word: &str
     words.push(word).expect(rt, "there is memory");
 }
 
-/// What a run of the program with these words leaves with. They are parsed on the heap, of which nothing is refused.
+/// What a run of the program with these words leaves with. They are parsed on the heap, which refuses nothing.
 fn status_of<A: Allocator + Copy>(
     rt: &(impl Files<File = File> + Net + Clock + RandomSource),
     heap: Global,
@@ -83,7 +83,7 @@ fn status_of<A: Allocator + Copy>(
     run(rt, heap, alloc, words, View::Plain, input, output, errors)
 }
 
-/// The status of a run with the words of this line, of which growth `k` is refused, and how many were refused.
+/// The status of a run with the words of this line and without growth `k`, and how many growths were refused.
 pub(crate) fn outcome(
     rt: &(impl Abort + Host),
     memory: &Memory,
@@ -124,7 +124,7 @@ pub(crate) fn check_over(
     reads
 }
 
-/// The same with this input, over streams of which none fails.
+/// The same with this input, over streams that don't fail.
 pub(crate) fn check(
     rt: &(impl Abort + Host),
     memory: &Memory,
@@ -146,7 +146,7 @@ fn expect_written(rt: &impl Abort, streams: &Streams<'_>, line: &str, k: u64, du
     expect(rt, is_told, line, k, text_in(errors));
 }
 
-/// This holds of the run with these words, of which growth `k` was refused.
+/// This holds of the run with these words and without growth `k`.
 pub(crate) fn expect(rt: &impl Abort, holds: bool, line: &str, k: u64, found: &str) {
     assert!(rt; holds, "{line} at {k}: {found}");
 }

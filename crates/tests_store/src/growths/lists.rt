@@ -66,11 +66,11 @@ fn expect_each(
     count: u64,
     due: (&[Reply], usize),
 ) -> u64 {
-    let behind = from.saturating_add(count);
-    for k in from..behind {
+    let end = from.saturating_add(count);
+    for k in from..end {
         expect_list(rt, memory, new_in(rt, memory), (k, 1), due);
     }
-    behind
+    end
 }
 
 /// Each growth after that of the list of the replies, and then none.

@@ -48,7 +48,7 @@ fn stinted<'m>(
 /// The device has its memory from elsewhere. A store takes none once it has called its device, to create a hill and to submit, and an
 /// audit and the close take none at all.
 #[test]
-fn none_behind_the_first_call_of_the_device(rt: HostRuntime) {
+fn none_after_the_first_call_of_the_device(rt: HostRuntime) {
     let memory = Refusing::new(rt.alloc());
     let disk = Refusing::new(rt.alloc());
     let device = stinting(blank_in(&rt, &disk), &memory);
