@@ -2,8 +2,9 @@
 //!
 //! It is one type for all of them, whatever a test wants of it, so the store's calls are compiled for it once.
 
+use crate::memory::{Counted, TestMemory};
 use sector_disk::{Device, Fault, FuseDevice, FuseKind, MemoryDevice};
-use std::alloc::Global;
+use std::alloc::{AllocError, Global};
 use tests_fixtures::Refusing;
 
 /// A device in memory that counts its calls. It may stop or fail after some of them, and refuse growths from the first on.
@@ -14,8 +15,7 @@ pub type Tried<'m> = Counting<'m, FuseDevice<MemoryDevice<&'m Refusing<Global>>>
 pub struct Counting<'m, D> {
     inner: D,
     stinted: Option<&'m Refusing<Global>>,
-    /// How many calls there were.
-    pub calls: u64,
+    calls: u64,
 }
 
 impl<D: Device> Device for Counting<'_, D> {
@@ -55,37 +55,54 @@ fn stint(stinted: Option<&Refusing<Global>>) {
     }
 }
 
-/// A device that stops or fails once it has made `calls` calls.
-pub fn failing<'m>(
-    inner: MemoryDevice<&'m Refusing<Global>>,
-    calls: u64,
-    kind: FuseKind,
-) -> Tried<'m> {
-    Counting {
-        inner: FuseDevice::new(inner, calls, kind),
-        stinted: None,
-        calls: 0,
+impl<D: Device> Counted for Counting<'_, D> {
+    fn calls(&self) -> u64 {
+        self.calls
     }
 }
 
-/// A device that makes each call.
-pub fn lasting<'m>(inner: MemoryDevice<&'m Refusing<Global>>) -> Tried<'m> {
-    failing(inner, u64::MAX, FuseKind::Stop)
-}
+impl<'m> TestMemory for &'m Refusing<Global> {
+    type Disk = MemoryDevice<&'m Refusing<Global>>;
 
-/// A device that makes each call, and refuses the growths of `memory` from the first one on.
-pub fn stinting<'m>(
-    inner: MemoryDevice<&'m Refusing<Global>>,
-    memory: &'m Refusing<Global>,
-) -> Tried<'m> {
-    Counting {
-        inner: FuseDevice::new(inner, u64::MAX, FuseKind::Stop),
-        stinted: Some(memory),
-        calls: 0,
+    type Device = Tried<'m>;
+
+    fn refuse(self, passed: u64, refused: u64) {
+        Refusing::refuse(self, passed, refused);
     }
-}
 
-/// The device in memory within.
-pub fn within<'m>(device: Tried<'m>) -> MemoryDevice<&'m Refusing<Global>> {
-    device.inner.into_inner()
+    fn refused(self) -> u64 {
+        Refusing::refused(self)
+    }
+
+    fn blank(self, sectors: u32) -> Option<MemoryDevice<&'m Refusing<Global>>> {
+        match MemoryDevice::new(self, sectors) {
+            Ok(disk) => Some(disk),
+            Err(AllocError) => None,
+        }
+    }
+
+    fn failing(
+        self,
+        disk: MemoryDevice<&'m Refusing<Global>>,
+        calls: u64,
+        kind: FuseKind,
+    ) -> Tried<'m> {
+        Counting {
+            inner: FuseDevice::new(disk, calls, kind),
+            stinted: None,
+            calls: 0,
+        }
+    }
+
+    fn stinting(self, disk: MemoryDevice<&'m Refusing<Global>>) -> Tried<'m> {
+        Counting {
+            inner: FuseDevice::new(disk, u64::MAX, FuseKind::Stop),
+            stinted: Some(self),
+            calls: 0,
+        }
+    }
+
+    fn within(self, device: Tried<'m>) -> MemoryDevice<&'m Refusing<Global>> {
+        device.inner.into_inner()
+    }
 }

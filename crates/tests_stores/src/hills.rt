@@ -2,17 +2,12 @@
 
 use crate::calls::{create, open};
 use hill_store::{Refusal, Store};
-use sector_disk::{Device, MemoryDevice};
-use std::alloc::{AllocError, Allocator};
+use sector_disk::Device;
+use std::alloc::Allocator;
 use war_types::Settings;
 
 /// Sectors that a hill of two needs: two headers, and four for each of three slots.
 pub const SECTORS: u32 = 14;
-
-/// A blank device for a hill of two.
-pub fn blank<A: Allocator + Copy>(alloc: A) -> Result<MemoryDevice<A>, AllocError> {
-    MemoryDevice::new(alloc, SECTORS)
-}
 
 /// A hill without warriors that is created on a device, if one is.
 pub fn created<D: Device + Drop, A: Allocator + Copy>(

@@ -3,34 +3,21 @@
 //! A slot of the old format has two sectors. The first holds instructions 0 to 63, as in the new one. The other holds
 //! instructions 64 to 99 and, from 288 on, the fields that the last sector of the new one has.
 
-use crate::sectors::{put, sector};
-use sector_disk::{Fault, MemoryDevice};
-use std::alloc::{AllocError, Allocator};
+use crate::memory::{Disk, TestMemory};
+use crate::sectors::sector;
+use sector_disk::Fault;
 
 /// The device in the old format that holds what this one does in its first `slots` slots, if that has room for it.
-pub fn narrowed<A: Allocator + Copy>(
-    alloc: A,
-    new: &mut MemoryDevice<A>,
-    slots: u8,
-) -> Option<MemoryDevice<A>> {
-    match MemoryDevice::new(alloc, 2 + 2 * u32::from(slots)) {
-        Ok(mut old) => {
-            let is_narrowed = narrow(new, &mut old, slots).is_ok();
-            if is_narrowed {
-                return Some(old);
-            }
-            drop(old);
-            None
-        }
-        Err(AllocError) => None,
+pub fn narrowed<M: TestMemory>(memory: M, new: &mut M::Disk, slots: u8) -> Option<M::Disk> {
+    let mut old = memory.blank(2 + 2 * u32::from(slots))?;
+    if narrow(new, &mut old, slots).is_ok() {
+        return Some(old);
     }
+    drop(old);
+    None
 }
 
-fn narrow<A: Allocator>(
-    new: &mut MemoryDevice<A>,
-    old: &mut MemoryDevice<A>,
-    slots: u8,
-) -> Result<(), Fault> {
+fn narrow<D: Disk>(new: &mut D, old: &mut D, slots: u8) -> Result<(), Fault> {
     narrow_header(new, old, 0)?;
     narrow_header(new, old, 1)?;
     for slot in 0..slots {
@@ -40,29 +27,22 @@ fn narrow<A: Allocator>(
 }
 
 /// What this sector holds, a header or zeros. The eighth byte of a header is the number of its format, and the others are the same in both.
-fn narrow_header<A: Allocator>(
-    new: &mut MemoryDevice<A>,
-    old: &mut MemoryDevice<A>,
-    n: u32,
-) -> Result<(), Fault> {
+fn narrow_header<D: Disk>(new: &mut D, old: &mut D, n: u32) -> Result<(), Fault> {
     let mut content = sector(new, n)?;
     if content[7] == b'2' {
         content[7] = b'1';
     }
-    put(old, n, &content)
+    old.put(n, &content)
 }
 
-fn narrow_slot<A: Allocator>(
-    new: &mut MemoryDevice<A>,
-    old: &mut MemoryDevice<A>,
-    slot: u8,
-) -> Result<(), Fault> {
+fn narrow_slot<D: Disk>(new: &mut D, old: &mut D, slot: u8) -> Result<(), Fault> {
     let from = 2 + 4 * u32::from(slot);
     let to = 2 + 2 * u32::from(slot);
-    put(old, to, &sector(new, from)?)?;
+    let first = sector(new, from)?;
+    old.put(to, &first)?;
     let code = sector(new, from + 1)?;
     let fields = sector(new, from + 3)?;
-    put(old, to + 1, &joined(&code, &fields))
+    old.put(to + 1, &joined(&code, &fields))
 }
 
 /// The code of one sector, and then the fields of another.

@@ -1,10 +1,10 @@
 //! The bytes in the sectors of a device.
 
-use sector_disk::{Device, Fault, MemoryDevice};
-use std::alloc::Allocator;
+use crate::memory::Disk;
+use sector_disk::{Device, Fault};
 
 /// What a device reads at one of its sectors.
-pub fn sector<A: Allocator>(device: &mut MemoryDevice<A>, n: u32) -> Result<[u8; 512], Fault> {
+pub fn sector<D: Device>(device: &mut D, n: u32) -> Result<[u8; 512], Fault> {
     if n >= device.sectors() {
         return Err(Fault);
     }
@@ -14,40 +14,18 @@ pub fn sector<A: Allocator>(device: &mut MemoryDevice<A>, n: u32) -> Result<[u8;
 }
 
 /// Whether a device reads this at one of its sectors.
-pub fn holds<A: Allocator>(
-    device: &mut MemoryDevice<A>,
-    n: u32,
-    content: &[u8; 512],
-) -> Result<bool, Fault> {
+pub fn holds<D: Device>(device: &mut D, n: u32, content: &[u8; 512]) -> Result<bool, Fault> {
     Ok(sector(device, n)? == *content)
 }
 
-/// Puts a content into one of a device's sectors.
-pub fn put<A: Allocator>(
-    device: &mut MemoryDevice<A>,
-    n: u32,
-    content: &[u8; 512],
-) -> Result<(), Fault> {
-    if n >= device.sectors() {
-        return Err(Fault);
-    }
-    device.set(n, content);
-    Ok(())
-}
-
 /// Puts a byte into one of a device's sectors, and leaves the others as they are.
-pub fn set_byte<A: Allocator>(
-    device: &mut MemoryDevice<A>,
-    n: u32,
-    at: usize,
-    byte: u8,
-) -> Result<(), Fault> {
+pub fn set_byte<D: Disk>(device: &mut D, n: u32, at: usize, byte: u8) -> Result<(), Fault> {
     let mut content = sector(device, n)?;
     match content.get_mut(at) {
         Some(place) => *place = byte,
         None => return Err(Fault),
     }
-    put(device, n, &content)
+    device.put(n, &content)
 }
 
 /// These bytes, and then zeros.
