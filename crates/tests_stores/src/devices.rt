@@ -55,7 +55,7 @@ fn stint(stinted: Option<&Refusing<Global>>) {
     }
 }
 
-impl<D: Device> Counted for Counting<'_, D> {
+impl<D: Device + Drop> Counted for Counting<'_, D> {
     fn calls(&self) -> u64 {
         self.calls
     }
