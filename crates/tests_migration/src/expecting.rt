@@ -2,11 +2,11 @@
 
 use crate::hills::content_of;
 use hill_store::Store;
-use sector_disk::{Device, MemoryDevice};
+use sector_disk::Device;
 use std::alloc::Allocator;
 use std::fmt::Debug;
 use std::process::Abort;
-use tests_stores::{Numbers, audit, count_rows, holds, other_row};
+use tests_stores::{Disk, Numbers, audit, count_rows, holds, other_row};
 
 /// What was found is what is due. If it isn't, the note says what was looked at.
 pub(crate) fn expect_same<T: PartialEq + Debug>(rt: &impl Abort, found: &T, due: &T, note: &str) {
@@ -36,18 +36,14 @@ pub(crate) fn expect_the_rows<D: Device + Drop, A: Allocator + Copy>(
     drop(store);
 }
 
-/// These devices hold the same. They are dropped.
-pub(crate) fn expect_equal<A: Allocator + Copy>(
-    rt: &impl Abort,
-    mut device: MemoryDevice<A>,
-    mut other: MemoryDevice<A>,
-) {
-    expect_same(rt, &other.sectors(), &device.sectors(), "sectors");
-    for n in 0..device.sectors() {
-        let content = content_of(rt, &mut device, n);
+/// These disks hold the same. They are dropped.
+pub(crate) fn expect_equal<D: Disk>(rt: &impl Abort, mut disk: D, mut other: D) {
+    expect_same(rt, &other.sectors(), &disk.sectors(), "sectors");
+    for n in 0..disk.sectors() {
+        let content = content_of(rt, &mut disk, n);
         let found = holds(&mut other, n, &content);
         expect_same(rt, &(n, found), &(n, Ok(true)), "a sector");
     }
-    drop(device);
+    drop(disk);
     drop(other);
 }

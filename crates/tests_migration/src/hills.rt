@@ -2,45 +2,32 @@
 
 use crate::expecting::{expect_same, expect_the_rows};
 use hill_store::{MigrateFault, Refusal, Store};
-use sector_disk::{Device, MemoryDevice};
-use std::alloc::{Allocator, Global};
+use sector_disk::Device;
+use std::alloc::Allocator;
 use std::process::Abort;
-use tests_fixtures::Refusing;
 use tests_stores::{
-    SECTORS, SMALL, THREE, Tried, audit, close, created, lasting, moved, narrowed, open, refused,
-    sector, settings_from, submit, within,
+    Disk, SECTORS, SMALL, THREE, TestMemory, audit, close, created, lasting, moved, narrowed, open,
+    refused, sector, settings_from, submit,
 };
 use war_types::RawSettings;
 
-/// A blank device in memory of `sectors` sectors.
-pub(crate) fn blank_of<A: Allocator + Copy>(
-    rt: &impl Abort,
-    alloc: A,
-    sectors: u32,
-) -> MemoryDevice<A> {
-    MemoryDevice::new(alloc, sectors).expect(rt, "there is memory")
+/// A blank disk of `sectors` sectors.
+pub(crate) fn blank_of<M: TestMemory>(rt: &impl Abort, memory: M, sectors: u32) -> M::Disk {
+    memory.blank(sectors).expect(rt, "there is memory")
 }
 
-/// A blank device for a hill of two.
-pub(crate) fn new_in<'m>(rt: &impl Abort, memory: &'m Refusing<Global>) -> Tried<'m> {
-    lasting(blank_of(rt, memory, SECTORS))
+/// A device over a blank disk for a hill of two.
+pub(crate) fn new_in<M: TestMemory>(rt: &impl Abort, memory: M) -> M::Device {
+    lasting(memory, blank_of(rt, memory, SECTORS))
 }
 
-/// What a device keeps that stops, if this is chosen of what it need not keep.
-pub(crate) fn image_of<A: Allocator + Copy>(
-    rt: &impl Abort,
-    device: &MemoryDevice<A>,
-    choice: &[u32],
-) -> MemoryDevice<A> {
-    device.stopped(choice).expect(rt, "there is memory")
+/// What a disk keeps that stops, if this is chosen of what it need not keep.
+pub(crate) fn image_of<D: Disk>(rt: &impl Abort, disk: &D, choice: &[u32]) -> D {
+    disk.image(choice).expect(rt, "there is memory")
 }
 
 /// What a device reads at one of its sectors.
-pub(crate) fn content_of<A: Allocator>(
-    rt: &impl Abort,
-    device: &mut MemoryDevice<A>,
-    n: u32,
-) -> [u8; 512] {
+pub(crate) fn content_of<D: Device>(rt: &impl Abort, device: &mut D, n: u32) -> [u8; 512] {
     sector(device, n).expect(rt, "it has the sector")
 }
 
@@ -56,26 +43,25 @@ pub(crate) fn created_on<D: Device + Drop, A: Allocator + Copy>(
 }
 
 /// A hill of two, on which a third warrior fell: headers of the generations 2 and 3, and two slots.
-pub(crate) fn written<'m>(
-    rt: &impl Abort,
-    memory: &'m Refusing<Global>,
-) -> MemoryDevice<&'m Refusing<Global>> {
+pub(crate) fn written<M: TestMemory>(rt: &impl Abort, memory: M) -> M::Disk {
     let mut store = created_on(rt, memory, new_in(rt, memory), SMALL);
     for (source, reply) in &THREE {
         expect_same(rt, &submit(&mut store, *source), reply, "a reply");
     }
-    within(close(store))
+    memory.within(close(store))
 }
 
-/// A device in the old format with that hill.
-pub(crate) fn old_device<'m>(
-    rt: &impl Abort,
-    memory: &'m Refusing<Global>,
-) -> MemoryDevice<&'m Refusing<Global>> {
+/// A disk in the old format with that hill.
+pub(crate) fn old_disk<M: TestMemory>(rt: &impl Abort, memory: M) -> M::Disk {
     let mut new = written(rt, memory);
     let old = narrowed(memory, &mut new, 3).expect(rt, "it has room");
     drop(new);
     old
+}
+
+/// A device over that disk.
+pub(crate) fn old_in<M: TestMemory>(rt: &impl Abort, memory: M) -> M::Device {
+    lasting(memory, old_disk(rt, memory))
 }
 
 /// The new device of a move failed, or nothing did.
@@ -114,13 +100,13 @@ pub(crate) fn counted<D: Device + Drop, A: Allocator + Copy>(
 }
 
 /// The hill of two is moved from one of these devices to the other. The old one comes back.
-pub(crate) fn moved_off<O: Device + Drop, D: Device + Drop>(
+pub(crate) fn moved_off<O: Device + Drop, D: Device + Drop, A: Allocator + Copy>(
     rt: &impl Abort,
-    memory: &Refusing<Global>,
+    alloc: A,
     old: O,
     new: D,
 ) -> O {
-    let moved = moved(memory, old, new);
+    let moved = moved(alloc, old, new);
     let (old, store) = moved.expect(rt, "it is moved");
     expect_the_rows(rt, store);
     old

@@ -12,7 +12,8 @@
 //! - `files`: a file that is looked at.
 //!
 //! `hills` makes devices and hills on them, and `tests_stores` devices in the old format and moves. `expecting` has what tests expect. All
-//! stores are on one type of device, with one type of allocator. What is expected was counted by hand.
+//! stores are on one type of device, with one type of allocator, which only `run` of `tests_stores` names: a proof over these types takes
+//! several times as long. What is expected was counted by hand.
 //!
 //! A test here must not show what a contract could say instead, nor what the built program shows: hills that are moved by the commands
 //! are in `bench/transcripts`, byte by byte.

@@ -3,13 +3,12 @@
 use crate::expecting::expect_same;
 use crate::hills::{counted, created_on, image_of, new_in};
 use crate::passing::{Goes, Passing};
-use hill_look::{LookRefusal, look_at_hill};
+use hill_look::{LookRefusal, Source, look_at_hill};
 use hill_store::{Refusal, Reply};
-use sector_disk::{FuseKind, MemoryDevice};
-use std::alloc::Global;
+use sector_disk::{Device, FuseKind};
+use std::alloc::Allocator;
 use std::process::Abort;
-use tests_fixtures::Refusing;
-use tests_stores::{FIRST, SECTORS, SMALL, close, failing, opened, submit, within};
+use tests_stores::{FIRST, SECTORS, SMALL, TestMemory, Trial, close, opened, run, submit};
 
 /// Calls of the device when a hill of one warrior is opened: a sync, two headers, and the four sectors of its slot.
 const OPENING: u64 = 7;
@@ -23,34 +22,29 @@ const TRY: u64 = SECTORS as u64;
 /// Reads of a look at which nothing changes: both headers twice, and the other sectors.
 const LOOK: u64 = SECTORS as u64 + 2;
 
-/// The device of a hill of one warrior.
-fn one_on<'m>(rt: &impl Abort, memory: &'m Refusing<Global>) -> MemoryDevice<&'m Refusing<Global>> {
+/// The disk of a hill of one warrior.
+fn one_on<M: TestMemory>(rt: &impl Abort, memory: M) -> M::Disk {
     let mut store = created_on(rt, memory, new_in(rt, memory), SMALL);
     expect_same(rt, &submit(&mut store, b"JMP 0"), &FIRST, "a reply");
-    within(close(store))
+    memory.within(close(store))
 }
 
-/// What stands on the device if another warrior is placed and the device stops after `calls` of these calls.
-fn stopped_at<'m>(
-    rt: &impl Abort,
-    memory: &'m Refusing<Global>,
-    device: &MemoryDevice<&'m Refusing<Global>>,
-    calls: u64,
-) -> MemoryDevice<&'m Refusing<Global>> {
-    let copy = image_of(rt, device, &[]);
-    let fuse = failing(copy, OPENING.saturating_add(calls), FuseKind::Stop);
+/// What stands on the disk if another warrior is placed and the device stops after `calls` of these calls.
+fn stopped_at<M: TestMemory>(rt: &impl Abort, memory: M, disk: &M::Disk, calls: u64) -> M::Disk {
+    let copy = image_of(rt, disk, &[]);
+    let fuse = memory.failing(copy, OPENING.saturating_add(calls), FuseKind::Stop);
     let mut store = opened(memory, fuse).expect(rt, "it opens");
     let reply = submit(&mut store, b"MOV 0,1");
     assert!(rt; matches!(reply, Reply::Placed { .. }) == (calls == PLACING));
-    within(close(store))
+    memory.within(close(store))
 }
 
 /// A source that goes through these devices.
-fn source_of<'m>(
-    devices: Vec<MemoryDevice<&'m Refusing<Global>>, &'m Refusing<Global>>,
+fn source_of<D: Device + Drop, A: Allocator + Copy>(
+    devices: Vec<D, A>,
     every: u64,
     goes: Goes,
-) -> Passing<'m> {
+) -> Passing<D, A> {
     Passing {
         devices,
         every,
@@ -62,20 +56,20 @@ fn source_of<'m>(
     }
 }
 
-/// A source that goes through the device before a warrior is placed, after each of the calls of that, and at the end.
-fn placing<'m>(rt: &impl Abort, memory: &'m Refusing<Global>) -> Passing<'m> {
-    let device = one_on(rt, memory);
+/// A source that goes through the disk before a warrior is placed, after each of the calls of that, and at the end.
+fn placing<M: TestMemory>(rt: &impl Abort, memory: M) -> Passing<M::Disk, M> {
+    let disk = one_on(rt, memory);
     let mut images = Vec::new(memory);
     for calls in 0..PLACING + 1 {
-        let image = stopped_at(rt, memory, &device, calls);
+        let image = stopped_at(rt, memory, &disk, calls);
         assert!(rt; images.push(image).is_ok());
     }
-    drop(device);
+    drop(disk);
     source_of(images, 1, Goes::Once)
 }
 
 /// A source in which each try finds the headers of another hill.
-fn changing<'m>(rt: &impl Abort, memory: &'m Refusing<Global>) -> Passing<'m> {
+fn changing<M: TestMemory>(rt: &impl Abort, memory: M) -> Passing<M::Disk, M> {
     let one = one_on(rt, memory);
     let two = stopped_at(rt, memory, &one, PLACING);
     let mut devices = Vec::new(memory);
@@ -85,18 +79,30 @@ fn changing<'m>(rt: &impl Abort, memory: &'m Refusing<Global>) -> Passing<'m> {
 }
 
 /// How many warriors are on the hill that is looked at, and whether all its results are true; or why there is none.
-fn look(memory: &Refusing<Global>, source: &mut Passing<'_>) -> Result<(usize, bool), LookRefusal> {
-    match look_at_hill(memory, source) {
+fn look<S: Source, A: Allocator + Copy>(
+    alloc: A,
+    source: &mut S,
+) -> Result<(usize, bool), LookRefusal> {
+    match look_at_hill(alloc, source) {
         Ok(store) => Ok(counted(store)),
         Err(refusal) => Err(refusal),
     }
 }
 
+/// If its headers change within each try, a hundred tries are made.
+fn expect_changing<M: TestMemory>(rt: &impl Abort, memory: M) {
+    let mut source = changing(rt, memory);
+    let found = (look(memory, &mut source), source.reads);
+    let due = (Err(LookRefusal::Changing), 2 + 100 * TRY);
+    expect_same(rt, &found, &due, "a look");
+    drop(source);
+}
+
 /// With `every` reads between two calls there are one or two warriors, and at last two.
-fn expect_one_or_two(
+fn expect_one_or_two<D: Device + Drop, A: Allocator + Copy>(
     rt: &impl Abort,
-    memory: &Refusing<Global>,
-    source: &mut Passing<'_>,
+    memory: A,
+    source: &mut Passing<D, A>,
     every: u64,
 ) {
     source.every = every;
@@ -107,35 +113,11 @@ fn expect_one_or_two(
     expect_same(rt, &look(memory, source), &Ok((2, true)), "a look");
 }
 
-/// However fast the warrior is placed meanwhile.
-#[test]
-fn a_hill_that_is_written_meanwhile(rt: HostRuntime) {
-    let memory = Refusing::new(rt.alloc());
-    let mut source = placing(&rt, &memory);
-    for every in 1..LOOK + 1 {
-        expect_one_or_two(&rt, &memory, &mut source, every);
-    }
-    drop(source);
-    drop(memory);
-}
-
-/// If its headers change within each try, a hundred tries are made.
-#[test]
-fn a_hill_that_changes_too_quickly(rt: HostRuntime) {
-    let memory = Refusing::new(rt.alloc());
-    let mut source = changing(&rt, &memory);
-    let found = (look(&memory, &mut source), source.reads);
-    let due = (Err(LookRefusal::Changing), 2 + 100 * TRY);
-    expect_same(&rt, &found, &due, "a look");
-    drop(source);
-    drop(memory);
-}
-
-/// This read fails, and is not tried again.
-fn expect_failed(
+/// This read fails. It is `Disk`, and is not tried again.
+fn expect_failed<D: Device + Drop, A: Allocator + Copy>(
     rt: &impl Abort,
-    memory: &Refusing<Global>,
-    source: &mut Passing<'_>,
+    memory: A,
+    source: &mut Passing<D, A>,
     fails_at: u64,
 ) {
     source.every = 1000;
@@ -148,22 +130,17 @@ fn expect_failed(
     expect_same(rt, &found, &(due, fails_at, 1), "a look");
 }
 
-/// Each read that fails is `Disk`, and none is tried again.
-#[test]
-fn each_read_that_fails(rt: HostRuntime) {
-    let memory = Refusing::new(rt.alloc());
-    let mut source = placing(&rt, &memory);
-    for fails_at in 1..LOOK + 1 {
-        expect_failed(&rt, &memory, &mut source, fails_at);
-    }
-    drop(source);
-    drop(memory);
-}
-
-/// Growth `k` of the seven of a look is refused, or there is no such growth.
-fn expect_growth(rt: &impl Abort, memory: &Refusing<Global>, source: &mut Passing<'_>, k: u64) {
+/// Growth `k` of the seven of a look is refused, or there is no such growth. One that is refused is `Memory`: the sectors, the members, an
+/// arena's four, and a warrior's code.
+fn expect_growth<M: TestMemory>(
+    rt: &impl Abort,
+    memory: M,
+    source: &mut Passing<M::Disk, M>,
+    k: u64,
+) {
     source.every = 1000;
     source.reads = 0;
+    source.fails_at = 0;
     memory.refuse(k, 1);
     let found = (look(memory, source), memory.refused());
     let due = if k < 7 {
@@ -174,14 +151,32 @@ fn expect_growth(rt: &impl Abort, memory: &Refusing<Global>, source: &mut Passin
     expect_same(rt, &found, &due, "a look");
 }
 
-/// Each growth that is refused is `Memory`: the sectors, the members, an arena's four, and a warrior's code.
-#[test]
-fn each_growth_that_is_refused(rt: HostRuntime) {
-    let memory = Refusing::new(rt.alloc());
-    let mut source = placing(&rt, &memory);
+/// However fast a warrior is placed meanwhile; with each read that fails; and with each growth that is refused.
+fn expect_looks<M: TestMemory>(rt: &impl Abort, memory: M) {
+    let mut source = placing(rt, memory);
+    for every in 1..LOOK + 1 {
+        expect_one_or_two(rt, memory, &mut source, every);
+    }
+    for fails_at in 1..LOOK + 1 {
+        expect_failed(rt, memory, &mut source, fails_at);
+    }
     for k in 0..8 {
-        expect_growth(&rt, &memory, &mut source, k);
+        expect_growth(rt, memory, &mut source, k);
     }
     drop(source);
-    drop(memory);
+}
+
+/// A hill that changes too quickly, and one that is written meanwhile.
+struct Looks;
+
+impl<R: Abort> Trial<R> for Looks {
+    fn run<M: TestMemory>(rt: &R, memory: M, _: M) {
+        expect_changing(rt, memory);
+        expect_looks(rt, memory);
+    }
+}
+
+#[test]
+fn a_hill_that_is_written_meanwhile(rt: HostRuntime) {
+    run::<HostRuntime, Looks>(&rt, rt.alloc());
 }

@@ -1,13 +1,11 @@
 //! What a stop, or one fault, leaves of a hill of two that is moved to another device.
 
 use crate::expecting::{expect_same, expect_the_rows};
-use crate::hills::{blank_of, expect_fault, hill_on, image_of, moved_off, new_in, old_device};
+use crate::hills::{blank_of, expect_fault, hill_on, image_of, moved_off, new_in, old_in};
 use hill_store::Refusal;
-use sector_disk::{FuseKind, MemoryDevice};
-use std::alloc::Global;
+use sector_disk::FuseKind;
 use std::process::Abort;
-use tests_fixtures::Refusing;
-use tests_stores::{SECTORS, failing, lasting, migrate, tried, within};
+use tests_stores::{SECTORS, TestMemory, Trial, lasting, migrate, run, tried};
 
 /// Calls of the new device: a sync, two headers, four sectors for each of two slots, a sync, the header in sector 1, and a sync.
 const CALLS: u64 = 14;
@@ -21,13 +19,9 @@ fn due(calls: u64) -> (bool, bool) {
     }
 }
 
-/// Whether a device holds the hill. It holds no other.
-fn holds_the_hill<'m>(
-    rt: &impl Abort,
-    memory: &'m Refusing<Global>,
-    device: MemoryDevice<&'m Refusing<Global>>,
-) -> bool {
-    match hill_on(rt, memory, lasting(device)) {
+/// Whether a disk holds the hill. It holds no other.
+fn holds_the_hill<M: TestMemory>(rt: &impl Abort, memory: M, disk: M::Disk) -> bool {
+    match hill_on(rt, memory, lasting(memory, disk)) {
         Some(store) => {
             expect_the_rows(rt, store);
             true
@@ -56,39 +50,20 @@ fn choice_of(kept: u32) -> [u32; 10] {
     choice
 }
 
-/// Every image of a device that stopped after `calls` calls holds what is due: each second one has the header.
-fn expect_images<'m>(
-    rt: &impl Abort,
-    memory: &'m Refusing<Global>,
-    device: &MemoryDevice<&'m Refusing<Global>>,
-    calls: u64,
-) {
+/// Every image of a disk that stopped after `calls` calls holds what is due: each second one has the header.
+fn expect_images<M: TestMemory>(rt: &impl Abort, memory: M, disk: &M::Disk, calls: u64) {
     let (lost, kept) = due(calls);
     for image in 0..images_of(calls) {
-        let left = image_of(rt, device, &choice_of(image));
+        let left = image_of(rt, disk, &choice_of(image));
         let found = holds_the_hill(rt, memory, left);
         let due = if image % 2 == 0 { lost } else { kept };
         expect_same(rt, &(image, calls, found), &(image, calls, due), "an image");
     }
 }
 
-/// The old device still holds the hill, which can be moved to a blank one.
-fn expect_moves<'m>(
-    rt: &impl Abort,
-    memory: &'m Refusing<Global>,
-    old: MemoryDevice<&'m Refusing<Global>>,
-) -> MemoryDevice<&'m Refusing<Global>> {
-    within(moved_off(rt, memory, lasting(old), new_in(rt, memory)))
-}
-
 /// A new device holds the hill, or it can be moved to that device again.
-fn expect_goes_on<'m>(
-    rt: &impl Abort,
-    memory: &'m Refusing<Global>,
-    old: MemoryDevice<&'m Refusing<Global>>,
-    new: MemoryDevice<&'m Refusing<Global>>,
-) {
-    match migrate(memory, lasting(old), lasting(new)) {
+fn expect_goes_on<M: TestMemory>(rt: &impl Abort, memory: M, old: M::Device, new: M::Disk) {
+    match migrate(memory, old, lasting(memory, new)) {
         Ok((old, store)) => {
             drop(old);
             expect_the_rows(rt, store);
@@ -96,39 +71,39 @@ fn expect_goes_on<'m>(
         Err((old, new, fault)) => {
             drop(old);
             expect_same(rt, &fault.refusal, &Refusal::Occupied, "a hill");
-            assert!(rt; holds_the_hill(rt, memory, within(new)));
+            assert!(rt; holds_the_hill(rt, memory, memory.within(new)));
         }
     }
 }
 
-/// What is left if the new device fails so after `calls` calls, and `made` were made.
-fn expect_left(rt: &impl Abort, memory: &Refusing<Global>, calls: u64, kind: FuseKind, made: u64) {
-    let new = failing(blank_of(rt, memory, SECTORS), calls, kind);
-    let old = lasting(old_device(rt, memory));
-    let (old, new, fault) = tried(memory, old, new);
+/// What is left if the new device fails so after `calls` calls, and `made` were made. The old one still holds the hill, which can be moved
+/// to a blank one.
+fn expect_left<M: TestMemory>(rt: &impl Abort, memory: M, calls: u64, kind: FuseKind, made: u64) {
+    let new = memory.failing(blank_of(rt, memory, SECTORS), calls, kind);
+    let (old, new, fault) = tried(memory, old_in(rt, memory), new);
     expect_fault(rt, fault, calls < CALLS);
-    let new = within(new);
+    let new = memory.within(new);
     expect_images(rt, memory, &new, made);
-    let old = expect_moves(rt, memory, within(old));
+    let old = moved_off(rt, memory, old, new_in(rt, memory));
     expect_goes_on(rt, memory, old, new);
 }
 
-#[test]
-fn a_stop_at_each_call(rt: HostRuntime) {
-    let memory = Refusing::new(rt.alloc());
-    for calls in 0..=CALLS {
-        expect_left(&rt, &memory, calls, FuseKind::Stop, calls);
+/// A stop at each call, and a fault at each one: the call that fails is lost, or it is made all the same.
+struct Moves;
+
+impl<R: Abort> Trial<R> for Moves {
+    fn run<M: TestMemory>(rt: &R, memory: M, _: M) {
+        for calls in 0..=CALLS {
+            expect_left(rt, memory, calls, FuseKind::Stop, calls);
+        }
+        for calls in 0..CALLS {
+            expect_left(rt, memory, calls, FuseKind::FailLost, calls);
+            expect_left(rt, memory, calls, FuseKind::FailKept, calls + 1);
+        }
     }
-    drop(memory);
 }
 
-/// The call that fails is lost, or it is made all the same.
 #[test]
-fn a_fault_at_each_call(rt: HostRuntime) {
-    let memory = Refusing::new(rt.alloc());
-    for calls in 0..CALLS {
-        expect_left(&rt, &memory, calls, FuseKind::FailLost, calls);
-        expect_left(&rt, &memory, calls, FuseKind::FailKept, calls + 1);
-    }
-    drop(memory);
+fn a_stop_and_a_fault_at_each_call(rt: HostRuntime) {
+    run::<HostRuntime, Moves>(&rt, rt.alloc());
 }

@@ -4,10 +4,9 @@ ghost use Rattle.std.specs.Prelude.{◌≡◌};
 ghost use Rattle.sector_disk.specs.File.{IsFileServed};
 
 use hill_look::Source;
-use sector_disk::{Device, Fault, MemoryDevice};
-use std::alloc::{Allocator, Global};
+use sector_disk::{Device, Fault};
+use std::alloc::Allocator;
 use std::marker::Model;
-use tests_fixtures::Refusing;
 
 /// What becomes of the reads after the last of the devices.
 #[derive(Clone, Copy, PartialEq, Eq)]
@@ -21,8 +20,8 @@ pub(crate) enum Goes {
 /// The sectors of the first device for `every` reads, then for as many those of the next one, and so on. One read fails, if any: it counts
 /// them from 1 on. It is lawful in no contract.
 #[derive(Drop)]
-pub(crate) struct Passing<'m> {
-    pub devices: Vec<MemoryDevice<&'m Refusing<Global>>, &'m Refusing<Global>>,
+pub(crate) struct Passing<D: Device + Drop, A: Allocator + Copy> {
+    pub devices: Vec<D, A>,
     pub every: u64,
     pub goes: Goes,
     pub fails_at: u64,
@@ -31,7 +30,7 @@ pub(crate) struct Passing<'m> {
     pub faults: u64,
 }
 
-impl<'m> Model for Passing<'m> {
+impl<D: Device + Drop, A: Allocator + Copy> Model for Passing<D, A> {
     ghost use Rattle.sector_disk.specs.File.{FileState};
 
     ghost Value = { FileState };
@@ -39,7 +38,7 @@ impl<'m> Model for Passing<'m> {
     ghost view = { λ source. record { sectors = source.sectors; faults = source.faults } };
 }
 
-impl Passing<'_> {
+impl<D: Device + Drop, A: Allocator + Copy> Passing<D, A> {
     /// Counts the fault of a read that failed.
     fn counted(&mut self, answer: Result<(), Fault>) -> Result<(), Fault>
         ensures { IsFileServed self.old self.new result }
@@ -69,7 +68,7 @@ impl Passing<'_> {
     }
 }
 
-impl Source for Passing<'_> {
+impl<D: Device + Drop, A: Allocator + Copy> Source for Passing<D, A> {
     ghost use Rattle.sector_disk.specs.File.{file_facts};
 
     ghost facts = { file_facts };
@@ -95,11 +94,7 @@ fn place_at(reads: u64, every: u64, goes: Goes, count: usize) -> usize {
     }
 }
 
-fn read_within<A: Allocator>(
-    device: &mut MemoryDevice<A>,
-    n: u32,
-    to: &mut [u8; 512],
-) -> Result<(), Fault> {
+fn read_within<D: Device>(device: &mut D, n: u32, to: &mut [u8; 512]) -> Result<(), Fault> {
     if n >= device.sectors() {
         return Err(Fault);
     }

@@ -7,11 +7,13 @@
 use crate::expecting::{expect_same, expect_table};
 use crate::hills::{blank_of, created_on, expect_fault, hill_on, image_of};
 use hill_store::{Reply, Store};
-use sector_disk::{Device, FuseKind, MemoryDevice};
-use std::alloc::Global;
+use sector_disk::{Device, FuseKind};
+use std::alloc::Allocator;
 use std::process::Abort;
-use tests_fixtures::{Refusing, small};
-use tests_stores::{Numbers, close, failing, lasting, moved, narrowed, submit, tried, within};
+use tests_fixtures::small;
+use tests_stores::{
+    Numbers, TestMemory, Trial, close, lasting, moved, narrowed, run, submit, tried,
+};
 use war_types::RawSettings;
 
 /// Sectors that a hill of twenty needs: two headers, and four for each of twenty-one slots.
@@ -46,9 +48,9 @@ static ROWS: [Numbers; 20] = [
 ];
 
 /// The warrior that is submitted as this entry stands on the hill.
-fn expect_placed<D: Device>(
+fn expect_placed<D: Device, A: Allocator + Copy>(
     rt: &impl Abort,
-    store: &mut Store<D, &Refusing<Global>>,
+    store: &mut Store<D, A>,
     expected: u64,
 ) {
     let source: &[u8] = if expected <= 20 { b"DAT 0,0" } else { b"JMP 0" };
@@ -59,24 +61,25 @@ fn expect_placed<D: Device>(
     expect_same(rt, &found, &expected, "an entry");
 }
 
+/// A device over a blank disk for the hill.
+fn new_in<M: TestMemory>(rt: &impl Abort, memory: M) -> M::Device {
+    lasting(memory, blank_of(rt, memory, SECTORS))
+}
+
 /// A device in the old format with the hill.
-fn old_device<'m>(
-    rt: &impl Abort,
-    memory: &'m Refusing<Global>,
-) -> MemoryDevice<&'m Refusing<Global>> {
-    let new = lasting(blank_of(rt, memory, SECTORS));
-    let mut store = created_on(rt, memory, new, TWENTY);
+fn old_in<M: TestMemory>(rt: &impl Abort, memory: M) -> M::Device {
+    let mut store = created_on(rt, memory, new_in(rt, memory), TWENTY);
     for entry in 1..=22 {
         expect_placed(rt, &mut store, entry);
     }
-    let mut new = within(close(store));
+    let mut new = memory.within(close(store));
     let old = narrowed(memory, &mut new, 21).expect(rt, "it has room");
     drop(new);
-    old
+    lasting(memory, old)
 }
 
 /// The table of the store is that of the hill, and its results are those of the matches. It is dropped.
-fn expect_in<D: Device + Drop>(rt: &impl Abort, mut store: Store<D, &Refusing<Global>>) {
+fn expect_in<D: Device + Drop, A: Allocator + Copy>(rt: &impl Abort, mut store: Store<D, A>) {
     expect_table(rt, &mut store, &ROWS);
     drop(store);
 }
@@ -84,15 +87,15 @@ fn expect_in<D: Device + Drop>(rt: &impl Abort, mut store: Store<D, &Refusing<Gl
 /// Calls that move it: a sync, two headers, four sectors for each of twenty slots, a sync, a header and a sync.
 const CALLS: u64 = 86;
 
-/// An image of the device holds the hill, or none.
-fn expect_image<'m>(
+/// An image of the disk holds the hill, or none.
+fn expect_image<M: TestMemory>(
     rt: &impl Abort,
-    memory: &'m Refusing<Global>,
-    device: &MemoryDevice<&'m Refusing<Global>>,
+    memory: M,
+    disk: &M::Disk,
     choice: &[u32; 86],
     holds: bool,
 ) {
-    let image = lasting(image_of(rt, device, choice));
+    let image = lasting(memory, image_of(rt, disk, choice));
     let found = match hill_on(rt, memory, image) {
         Some(store) => {
             expect_in(rt, store);
@@ -145,49 +148,45 @@ fn unsynced(calls: u64) -> u64 {
 
 /// All that was not synced is lost, all is kept, and of the sectors of slots that were not synced each alone is kept or lost: then there is
 /// no header.
-fn expect_images<'m>(
-    rt: &impl Abort,
-    memory: &'m Refusing<Global>,
-    device: &MemoryDevice<&'m Refusing<Global>>,
-    calls: u64,
-) {
+fn expect_images<M: TestMemory>(rt: &impl Abort, memory: M, disk: &M::Disk, calls: u64) {
     let (lost, kept) = due(calls);
-    expect_image(rt, memory, device, &LOST, lost);
-    expect_image(rt, memory, device, &KEPT, kept);
+    expect_image(rt, memory, disk, &LOST, lost);
+    expect_image(rt, memory, disk, &KEPT, kept);
     for place in 0..unsynced(calls) {
         let n = written_at(place);
-        expect_image(rt, memory, device, &choice_with(&LOST, n, 1), false);
-        expect_image(rt, memory, device, &choice_with(&KEPT, n, 0), false);
+        expect_image(rt, memory, disk, &choice_with(&LOST, n, 1), false);
+        expect_image(rt, memory, disk, &choice_with(&KEPT, n, 0), false);
     }
 }
 
 /// The hill is moved to a device that stops after `calls` calls, and to a blank one then. The old device comes back.
-fn expect_stop<'m>(
-    rt: &impl Abort,
-    memory: &'m Refusing<Global>,
-    old: MemoryDevice<&'m Refusing<Global>>,
-    calls: u64,
-) -> MemoryDevice<&'m Refusing<Global>> {
-    let new = failing(blank_of(rt, memory, SECTORS), calls, FuseKind::Stop);
-    let (old, new, fault) = tried(memory, lasting(old), new);
+fn expect_stop<M: TestMemory>(rt: &impl Abort, memory: M, old: M::Device, calls: u64) -> M::Device {
+    let new = memory.failing(blank_of(rt, memory, SECTORS), calls, FuseKind::Stop);
+    let (old, new, fault) = tried(memory, old, new);
     expect_fault(rt, fault, calls < CALLS);
-    let new = within(new);
+    let new = memory.within(new);
     expect_images(rt, memory, &new, calls);
     drop(new);
-    let moved = moved(memory, old, lasting(blank_of(rt, memory, SECTORS)));
+    let moved = moved(memory, old, new_in(rt, memory));
     let (old, store) = moved.expect(rt, "it is moved");
     expect_in(rt, store);
-    within(old)
+    old
 }
 
 /// The old device keeps the hill after each stop, and it can be moved to a blank one.
+struct Stops;
+
+impl<R: Abort> Trial<R> for Stops {
+    fn run<M: TestMemory>(rt: &R, memory: M, _: M) {
+        let mut old = old_in(rt, memory);
+        for calls in 0..=CALLS {
+            old = expect_stop(rt, memory, old, calls);
+        }
+        drop(old);
+    }
+}
+
 #[test]
 fn a_stop_at_each_call(rt: HostRuntime) {
-    let memory = Refusing::new(rt.alloc());
-    let mut old = old_device(&rt, &memory);
-    for calls in 0..=CALLS {
-        old = expect_stop(&rt, &memory, old, calls);
-    }
-    drop(old);
-    drop(memory);
+    run::<HostRuntime, Stops>(&rt, rt.alloc());
 }

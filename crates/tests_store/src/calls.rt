@@ -5,44 +5,27 @@ use crate::expecting::{
 };
 use crate::hills::{blank_in, blank_within, created_on, image_of, new_in, opened_on, small};
 use hill_store::{Refusal, Reply, Store};
-use sector_disk::{Device, FuseKind, MemoryDevice};
-use std::alloc::Global;
+use sector_disk::FuseKind;
 use std::process::Abort;
-use tests_fixtures::Refusing;
 use tests_stores::{
-    Answered, Counting, EMPTY, FIRST, ONE, REPLIES, SOURCES, TWO, Tried, failing, lasting, put,
-    refusal_to_create, refusal_to_open, set_byte, submit, tried_reply, with_zeros,
+    Answered, Disk, EMPTY, FIRST, ONE, REPLIES, SOURCES, TWO, TestMemory, Trial, lasting,
+    refusal_to_create, refusal_to_open, run, set_byte, submit, tried_reply, with_zeros,
 };
 
 /// Creating makes five calls: sync, read, read, write, sync. Each warrior that is placed makes seven more, the one that falls two.
-fn expect_list<D: Device + Drop>(
-    rt: &impl Abort,
-    memory: &Refusing<Global>,
-    device: Counting<'_, D>,
-) {
-    let mut store = created_on(rt, memory, device);
+fn expect_list<M: TestMemory>(rt: &impl Abort, memory: M) {
+    let mut store = created_on(rt, memory, new_in(rt, memory));
     expect_replies(rt, &mut store, &SOURCES, &REPLIES);
     expect_replies(rt, &mut store, &[], &[]);
     expect_calls(rt, store, 5 + 16);
-}
-
-#[test]
-fn a_list_of_submissions(rt: HostRuntime) {
-    let memory = Refusing::new(rt.alloc());
-    expect_list(&rt, &memory, new_in(&rt, &memory));
-    drop(memory);
 }
 
 /// Numbers of steps, and the reply within them.
 static WITHIN: [(u64, Option<Reply>); 2] = [(0, None), (1_000_000, Some(FIRST))];
 
 /// A source whose assembly spends its steps is not submitted, and its device is not called. Within enough of them it is.
-fn expect_spent<D: Device + Drop>(
-    rt: &impl Abort,
-    memory: &Refusing<Global>,
-    device: Counting<'_, D>,
-) {
-    let mut store = created_on(rt, memory, device);
+fn expect_spent<M: TestMemory>(rt: &impl Abort, memory: M) {
+    let mut store = created_on(rt, memory, new_in(rt, memory));
     for (steps, reply) in &WITHIN {
         let found = store.submit_within(b"MOV 0,1", Some(*steps));
         expect_same(rt, &found, reply, "a reply within some steps");
@@ -50,49 +33,27 @@ fn expect_spent<D: Device + Drop>(
     expect_calls(rt, store, 5 + 7);
 }
 
-#[test]
-fn steps_that_are_spent(rt: HostRuntime) {
-    let memory = Refusing::new(rt.alloc());
-    expect_spent(&rt, &memory, new_in(&rt, &memory));
-    drop(memory);
-}
-
 /// Sources for a hill of two: two tie with both of its warriors, one loses to both, and one is refused.
 static TRIED: [&[u8]; 4] = [b"MOV 0,1", b"DAT 0,0", b"JMP 0", b"MVO 0"];
 
 /// A source is answered the same way if it is tried, in many steps too, and if it is submitted then.
-fn expect_trial<D: Device>(
-    rt: &impl Abort,
-    store: &mut Store<D, &Refusing<Global>>,
-    source: &[u8],
-) {
+fn expect_trial<M: TestMemory>(rt: &impl Abort, store: &mut Store<M::Device, M>, source: &[u8]) {
     let tried = tried_reply(store, source, None);
     let within = tried_reply(store, source, Some(1_000_000));
     let submitted = Some(submit(store, source));
     expect_same(rt, &(within, submitted), &(tried, tried), "replies");
 }
 
-/// So it is on the hill that this device opens to. Without steps a source that is tried isn't answered.
-fn expect_tried<D: Device + Drop>(rt: &impl Abort, memory: &Refusing<Global>, device: D) {
-    let mut store = opened_on(rt, memory, device);
+/// So it is on a hill of two that is opened. Without steps a source that is tried isn't answered.
+fn expect_tried<M: TestMemory>(rt: &impl Abort, memory: M) {
+    let disk = answered(rt, memory, &TWO);
+    let mut store = opened_on(rt, memory, lasting(memory, disk));
     for source in &TRIED {
         expect_trial(rt, &mut store, *source);
     }
     let spent = tried_reply(&mut store, b"JMP 0", Some(0));
     drop(store);
     expect_same(rt, &spent, &None, "a trial without steps");
-}
-
-#[test]
-fn sources_that_are_tried(rt: HostRuntime) {
-    let memory = Refusing::new(rt.alloc());
-    expect_tried(&rt, &memory, lasting(answered(&rt, &memory, &TWO)));
-    drop(memory);
-}
-
-/// A blank device of `sectors` sectors.
-fn blank_of<'m>(rt: &impl Abort, memory: &'m Refusing<Global>, sectors: u32) -> Tried<'m> {
-    lasting(MemoryDevice::new(memory, sectors).expect(rt, "there is memory"))
 }
 
 /// Sectors of a blank device, and how a creation on it is refused.
@@ -103,19 +64,17 @@ static BLANK: [(u32, Option<Refusal>); 4] = [
     (1, Some(Refusal::TooSmall)),
 ];
 
-/// A command makes a file that is large enough before it creates a hill. Files that are refused to be opened are in `bench/transcripts`.
-#[test]
-fn devices_that_are_refused(rt: HostRuntime) {
-    let memory = Refusing::new(rt.alloc());
+/// No hill is created on a disk that is too small, or has one. A command makes a file that is large enough before it creates a hill.
+/// Files that are refused to be opened are in `bench/transcripts`.
+fn expect_refused<M: TestMemory>(rt: &impl Abort, memory: M) {
     for (sectors, refusal) in &BLANK {
-        let device = blank_of(&rt, &memory, *sectors);
-        let found = refusal_to_create(&memory, device, small(&rt));
-        expect_same(&rt, &(*sectors, found), &(*sectors, *refusal), "a creation");
+        let disk = memory.blank(*sectors).expect(rt, "there is memory");
+        let found = refusal_to_create(memory, lasting(memory, disk), small(rt));
+        expect_same(rt, &(*sectors, found), &(*sectors, *refusal), "a creation");
     }
-    let occupied = lasting(answered(&rt, &memory, &[]));
-    let found = refusal_to_create(&memory, occupied, small(&rt));
-    expect_same(&rt, &found, &Some(Refusal::Occupied), "a hill");
-    drop(memory);
+    let occupied = lasting(memory, answered(rt, memory, &[]));
+    let found = refusal_to_create(memory, occupied, small(rt));
+    expect_same(rt, &found, &Some(Refusal::Occupied), "a hill");
 }
 
 /// Refusals, and their names.
@@ -148,13 +107,10 @@ static CUT: [Answered; 3] = [
     (b"JMP 0", Reply::Reopen),
 ];
 
-/// What is left of the device then is shown by `sweeps`.
-#[test]
-fn a_device_that_fails(rt: HostRuntime) {
-    let memory = Refusing::new(rt.alloc());
-    let device = blank_within(&rt, &memory, 18, FuseKind::Stop);
-    drop(answered_on(&rt, &memory, device, &CUT));
-    drop(memory);
+/// A store answers this whose device stops after 18 calls. What is left of the device then is shown by `sweeps`.
+fn expect_cut<M: TestMemory>(rt: &impl Abort, memory: M) {
+    let device = blank_within(rt, memory, 18, FuseKind::Stop);
+    drop(answered_on(rt, memory, device, &CUT));
 }
 
 /// How the header of two warriors begins, of the generation 2. Zeros follow.
@@ -170,72 +126,66 @@ static WORN: [u8; 36] = [
     0x40, 0, 0, 0, 0x64, 0, 8, 0, 10, 0, 10, 0, 2, 0, 0, 0, 1, 0, 2,
 ];
 
-/// A device of a hill of two that has a header which begins so in one of its sectors, and nothing else.
-fn device_with<'m>(
-    rt: &impl Abort,
-    memory: &'m Refusing<Global>,
-    n: u32,
-    header: &[u8],
-) -> MemoryDevice<&'m Refusing<Global>> {
-    let mut device = blank_in(rt, memory);
-    put(&mut device, n, &with_zeros(header)).expect(rt, "it has the sector");
-    device
+/// A disk of a hill of two that has a header which begins so in one of its sectors, and nothing else.
+fn disk_with<M: TestMemory>(rt: &impl Abort, memory: M, n: u32, header: &[u8]) -> M::Disk {
+    let mut disk = blank_in(rt, memory);
+    disk.put(n, &with_zeros(header))
+        .expect(rt, "it has the sector");
+    disk
 }
 
-/// A device whose header names two slots, in which there are no warriors, is refused so if it stops after `calls` calls.
-fn expect_bad_slots(rt: &impl Abort, memory: &Refusing<Global>, calls: u64, refusal: Refusal) {
-    let device = failing(device_with(rt, memory, 0, &NAMED), calls, FuseKind::Stop);
+/// A device whose header names two slots, in which there are no warriors, is refused so if it stops after `calls` calls. A sync, two headers
+/// and the four sectors of the first slot are seven calls: if the eighth fails, the first slot is reported all the same.
+fn expect_bad_slots<M: TestMemory>(rt: &impl Abort, memory: M, calls: u64, refusal: Refusal) {
+    let device = memory.failing(disk_with(rt, memory, 0, &NAMED), calls, FuseKind::Stop);
     let found = refusal_to_open(memory, device);
     expect_same(rt, &(calls, found), &(calls, Some(refusal)), "a refusal");
 }
 
-/// A sync, two headers and the four sectors of the first slot are seven calls: if the eighth fails, the first slot is reported all the same.
-#[test]
-fn slots_are_refused_in_their_order(rt: HostRuntime) {
-    let memory = Refusing::new(rt.alloc());
-    expect_bad_slots(&rt, &memory, 6, Refusal::Disk);
-    expect_bad_slots(&rt, &memory, 7, Refusal::Damaged);
-    drop(memory);
-}
-
-/// Opening makes three calls if the hill is empty, and what follows none.
-fn expect_worn<D: Device + Drop>(
-    rt: &impl Abort,
-    memory: &Refusing<Global>,
-    device: Counting<'_, D>,
-) {
-    let mut store = opened_on(rt, memory, device);
+/// The greatest generation takes no warrior. Opening makes three calls if the hill is empty, and what follows none.
+fn expect_worn<M: TestMemory>(rt: &impl Abort, memory: M) {
+    let disk = disk_with(rt, memory, 1, &WORN);
+    let mut store = opened_on(rt, memory, lasting(memory, disk));
     expect_reply(rt, &mut store, b"", EMPTY);
     expect_reply(rt, &mut store, b"MOV 0,1", Reply::Worn);
     expect_calls(rt, store, 3);
 }
 
-#[test]
-fn the_greatest_generation(rt: HostRuntime) {
-    let memory = Refusing::new(rt.alloc());
-    expect_worn(&rt, &memory, lasting(device_with(&rt, &memory, 1, &WORN)));
-    drop(memory);
-}
-
-/// A device that an earlier version wrote, which kept no results.
-fn earlier<'m>(
-    rt: &impl Abort,
-    memory: &'m Refusing<Global>,
-) -> MemoryDevice<&'m Refusing<Global>> {
-    let mut device = answered(rt, memory, &TWO);
+/// A disk that an earlier version wrote, which kept no results.
+fn earlier<M: TestMemory>(rt: &impl Abort, memory: M) -> M::Disk {
+    let mut disk = answered(rt, memory, &TWO);
     for n in 0..2 {
-        set_byte(&mut device, n, 7, b'0').expect(rt, "it has the byte");
+        set_byte(&mut disk, n, 7, b'0').expect(rt, "it has the byte");
     }
-    device
+    disk
 }
 
-/// A device that an earlier version wrote, which kept no results, holds no hill, and one is created over it.
+/// A disk that an earlier version wrote holds no hill, and one is created over it.
+fn expect_no_earlier_hill<M: TestMemory>(rt: &impl Abort, memory: M) {
+    let disk = earlier(rt, memory);
+    let refusal = refusal_to_open(memory, image_of(rt, memory, &disk, &[]));
+    expect_same(rt, &refusal, &Some(Refusal::NotAHill), "no hill");
+    drop(answered_on(rt, memory, lasting(memory, disk), &ONE));
+}
+
+/// Lists, steps that are spent, trials, devices that are refused or fail, slots in their order, the greatest generation, and an earlier hill.
+struct Calls;
+
+impl<R: Abort> Trial<R> for Calls {
+    fn run<M: TestMemory>(rt: &R, memory: M, _: M) {
+        expect_list(rt, memory);
+        expect_spent(rt, memory);
+        expect_tried(rt, memory);
+        expect_refused(rt, memory);
+        expect_cut(rt, memory);
+        expect_bad_slots(rt, memory, 6, Refusal::Disk);
+        expect_bad_slots(rt, memory, 7, Refusal::Damaged);
+        expect_worn(rt, memory);
+        expect_no_earlier_hill(rt, memory);
+    }
+}
+
 #[test]
-fn an_earlier_hill_is_none(rt: HostRuntime) {
-    let memory = Refusing::new(rt.alloc());
-    let device = earlier(&rt, &memory);
-    let refusal = refusal_to_open(&memory, image_of(&rt, &device, &[]));
-    expect_same(&rt, &refusal, &Some(Refusal::NotAHill), "no hill");
-    drop(answered_on(&rt, &memory, lasting(device), &ONE));
-    drop(memory);
+fn calls_of_a_store(rt: HostRuntime) {
+    run::<HostRuntime, Calls>(&rt, rt.alloc());
 }

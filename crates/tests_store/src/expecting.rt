@@ -2,12 +2,13 @@
 
 use crate::hills::{created_on, new_in, opened_on};
 use hill_store::{Reply, Store};
-use sector_disk::{Device, MemoryDevice};
-use std::alloc::{Allocator, Global};
+use sector_disk::Device;
+use std::alloc::Allocator;
 use std::fmt::Debug;
 use std::process::Abort;
-use tests_fixtures::Refusing;
-use tests_stores::{Counting, Numbers, close, count_rows, other_row, submit, submit_all, within};
+use tests_stores::{
+    Counted, Numbers, TestMemory, close, count_rows, other_row, submit, submit_all,
+};
 
 /// What was found is what is due. If it isn't, the note says what was looked at.
 pub(crate) fn expect_same<T: PartialEq + Debug>(rt: &impl Abort, found: &T, due: &T, note: &str) {
@@ -38,13 +39,13 @@ pub(crate) fn answered_on<D: Device + Drop, A: Allocator + Copy>(
     close(store)
 }
 
-/// The same, of a device that was blank, as what it has in memory.
-pub(crate) fn answered<'m>(
+/// The same, as the disk within a device that was blank.
+pub(crate) fn answered<M: TestMemory>(
     rt: &impl Abort,
-    memory: &'m Refusing<Global>,
+    memory: M,
     answers: &[(&[u8], Reply)],
-) -> MemoryDevice<&'m Refusing<Global>> {
-    within(answered_on(rt, memory, new_in(rt, memory), answers))
+) -> M::Disk {
+    memory.within(answered_on(rt, memory, new_in(rt, memory), answers))
 }
 
 /// The replies of the store to a list of sources.
@@ -100,12 +101,12 @@ pub(crate) fn expect_opened<D: Device + Drop, A: Allocator + Copy>(
 }
 
 /// The device of this store was asked for `calls` calls.
-pub(crate) fn expect_calls<D: Device + Drop, A: Allocator + Copy>(
+pub(crate) fn expect_calls<D: Counted, A: Allocator + Copy>(
     rt: &impl Abort,
-    store: Store<Counting<'_, D>, A>,
+    store: Store<D, A>,
     calls: u64,
 ) {
     let device = close(store);
-    expect_same(rt, &device.calls, &calls, "calls");
+    expect_same(rt, &device.calls(), &calls, "calls");
     drop(device);
 }

@@ -5,13 +5,14 @@
 
 use crate::expecting::{answered, expect_calls, expect_reply, expect_same};
 use crate::hills::{created_on, image_of, new_in, small};
+use devices::expect_device_growths;
 use hill_store::{Refusal, Reply, Store};
-use sector_disk::{Device, MemoryDevice};
-use std::alloc::Global;
+use lists::expect_list_growths;
 use std::process::Abort;
-use tests_fixtures::Refusing;
+use stinting::expect_none_after_a_call;
 use tests_stores::{
-    Counting, FIRST, Numbers, ONE, refusal_to_create, refusal_to_open, row_at, submit, tried_reply,
+    FIRST, Numbers, ONE, TestMemory, Trial, refusal_to_create, refusal_to_open, row_at, run,
+    submit, tried_reply,
 };
 
 mod devices;
@@ -28,55 +29,38 @@ fn due(k: u64, count: u64) -> (Option<Refusal>, u64) {
 }
 
 /// A hill is created with growth `k` of five refused: that is answered `Memory`, or there is no such growth.
-fn expect_creation(rt: &impl Abort, memory: &Refusing<Global>, disk: &Refusing<Global>, k: u64) {
-    let device = new_in(rt, disk);
+fn expect_creation<M: TestMemory>(rt: &impl Abort, memory: M, disks: M, k: u64) {
+    let device = new_in(rt, disks);
     memory.refuse(k, 1);
     let refusal = refusal_to_create(memory, device, small(rt));
     let found = (refusal, memory.refused());
     expect_same(rt, &found, &due(k, 5), "a creation");
 }
 
-/// The members, and an arena's cells, the list of the written ones, and two queues.
-#[test]
-fn each_growth_of_a_creation(rt: HostRuntime) {
-    let memory = Refusing::new(rt.alloc());
-    let disk = Refusing::new(rt.alloc());
-    for k in 0..6 {
-        expect_creation(&rt, &memory, &disk, k);
-    }
-    drop(disk);
-    drop(memory);
-}
-
-/// The hill of a device is opened with growth `k` of six refused: that is answered `Memory`, or there is no such growth.
-fn expect_opening(
-    rt: &impl Abort,
-    memory: &Refusing<Global>,
-    device: &MemoryDevice<&Refusing<Global>>,
-    k: u64,
-) {
-    let image = image_of(rt, device, &[]);
+/// The hill of a disk is opened with growth `k` of six refused: that is answered `Memory`, or there is no such growth.
+fn expect_opening<M: TestMemory>(rt: &impl Abort, memory: M, disk: &M::Disk, k: u64) {
+    let image = image_of(rt, memory, disk, &[]);
     memory.refuse(k, 1);
     let found = (refusal_to_open(memory, image), memory.refused());
     expect_same(rt, &found, &due(k, 6), "an opening");
 }
 
-/// These, and the code of the one warrior.
-#[test]
-fn each_growth_of_an_opening(rt: HostRuntime) {
-    let memory = Refusing::new(rt.alloc());
-    let disk = Refusing::new(rt.alloc());
-    let device = answered(&rt, &disk, &ONE);
-    for k in 0..7 {
-        expect_opening(&rt, &memory, &device, k);
+/// Each growth of a creation: the members, and an arena's cells, the list of the written ones, and two queues. Then each growth of an
+/// opening: these, and the code of the one warrior.
+fn expect_hill_growths<M: TestMemory>(rt: &impl Abort, memory: M, disks: M) {
+    for k in 0..6 {
+        expect_creation(rt, memory, disks, k);
     }
-    drop(device);
+    let disk = answered(rt, disks, &ONE);
+    for k in 0..7 {
+        expect_opening(rt, memory, &disk, k);
+    }
     drop(disk);
-    drop(memory);
+    memory.refuse(0, 0);
 }
 
 /// What a source is answered at once, if it is.
-fn reply_at_once<D: Device>(store: &Store<D, &Refusing<Global>>) -> Option<Reply> {
+fn reply_at_once<M: TestMemory>(store: &Store<M::Device, M>) -> Option<Reply> {
     match store.begin(b"MOV 0,1", None) {
         Some(Err(reply)) => Some(reply),
         Some(Ok(_)) | None => None,
@@ -93,10 +77,10 @@ fn due_reply(k: u64, reply: Option<Reply>) -> (Option<Reply>, u64) {
 }
 
 /// A source is begun, tried and submitted, and each time growth `k` is refused.
-fn expect_growth<D: Device>(
+fn expect_growth<M: TestMemory>(
     rt: &impl Abort,
-    memory: &Refusing<Global>,
-    store: &mut Store<D, &Refusing<Global>>,
+    memory: M,
+    store: &mut Store<M::Device, M>,
     k: u64,
 ) {
     memory.refuse(k, 1);
@@ -110,35 +94,22 @@ fn expect_growth<D: Device>(
     expect_same(rt, &(begun, tried, submitted), &due, "a growth");
 }
 
-/// The ten growths of a warrior, on an empty hill of two that is created on this device.
-fn expect_growths<D: Device + Drop>(
-    rt: &impl Abort,
-    memory: &Refusing<Global>,
-    device: Counting<'_, D>,
-) {
-    let mut store = created_on(rt, memory, device);
+/// The ten growths of a warrior, on an empty hill of two. A submission that is answered `Memory` leaves the hill as it was, so the first
+/// that isn't is entry 1. So it is with one that is begun, and with a trial.
+fn expect_warrior_growths<M: TestMemory>(rt: &impl Abort, memory: M, disks: M) {
+    let mut store = created_on(rt, memory, new_in(rt, disks));
     for k in 0..11 {
         expect_growth(rt, memory, &mut store, k);
     }
+    memory.refuse(0, 0);
     expect_calls(rt, store, 5 + 7);
 }
 
-/// A submission that is answered `Memory` leaves the hill as it was, so the first that isn't is entry 1. So it is with one that is
-/// begun, and with a trial.
-#[test]
-fn each_growth_of_a_submission(rt: HostRuntime) {
-    let memory = Refusing::new(rt.alloc());
-    let disk = Refusing::new(rt.alloc());
-    expect_growths(&rt, &memory, new_in(&rt, &disk));
-    drop(disk);
-    drop(memory);
-}
-
 /// The first row of the table with growth `k` refused, if there is memory for the table then, and how many growths were refused.
-fn expect_first_row<D: Device>(
+fn expect_first_row<M: TestMemory>(
     rt: &impl Abort,
-    memory: &Refusing<Global>,
-    store: &Store<D, &Refusing<Global>>,
+    memory: M,
+    store: &Store<M::Device, M>,
     k: u64,
     due: (Option<Numbers>, u64),
 ) {
@@ -147,19 +118,32 @@ fn expect_first_row<D: Device>(
     expect_same(rt, &found, &due, "the first row");
 }
 
-/// The table of a hill of one warrior, on a hill of two that is created on this device.
-fn expect_rows_of_one<D: Device + Drop>(rt: &impl Abort, memory: &Refusing<Global>, device: D) {
-    let mut store = created_on(rt, memory, device);
+/// A table takes one growth. This is that of a hill of one warrior.
+fn expect_table_growth<M: TestMemory>(rt: &impl Abort, memory: M) {
+    let mut store = created_on(rt, memory, new_in(rt, memory));
     expect_reply(rt, &mut store, b"MOV 0,1", FIRST);
     expect_first_row(rt, memory, &store, 0, (None, 1));
     expect_first_row(rt, memory, &store, 1, (Some((1, 0, 0)), 0));
+    memory.refuse(0, 0);
     drop(store);
 }
 
-/// A table takes one growth.
+/// Growths of hills, of a warrior, of a table, of a device and of a list, and none after a device was called. After each of these both
+/// memories refuse nothing.
+struct Growths;
+
+impl<R: Abort> Trial<R> for Growths {
+    fn run<M: TestMemory>(rt: &R, memory: M, disks: M) {
+        expect_hill_growths(rt, memory, disks);
+        expect_warrior_growths(rt, memory, disks);
+        expect_table_growth(rt, memory);
+        expect_device_growths(rt, memory, disks);
+        expect_list_growths(rt, memory);
+        expect_none_after_a_call(rt, memory, disks);
+    }
+}
+
 #[test]
-fn of_a_table(rt: HostRuntime) {
-    let memory = Refusing::new(rt.alloc());
-    expect_rows_of_one(&rt, &memory, new_in(&rt, &memory));
-    drop(memory);
+fn growths_that_are_refused(rt: HostRuntime) {
+    run::<HostRuntime, Growths>(&rt, rt.alloc());
 }

@@ -1,40 +1,40 @@
-//! Devices in memory, and hills of two on them, as the tests make them. What is to be done and isn't ends the test at once.
+//! Devices, and hills of two on them, as the tests make them. What is to be done and isn't ends the test at once.
 
 use hill_store::Store;
-use sector_disk::{Device, FuseKind, MemoryDevice};
-use std::alloc::{Allocator, Global};
+use sector_disk::{Device, FuseKind};
+use std::alloc::Allocator;
 use std::process::Abort;
-use tests_fixtures::Refusing;
-use tests_stores::{SMALL, Tried, blank, created, failing, lasting, opened, settings_from};
+use tests_stores::{Disk, SECTORS, SMALL, TestMemory, created, lasting, opened, settings_from};
 use war_types::Settings;
 
-/// A blank device in memory, for a hill of two.
-pub(crate) fn blank_in<A: Allocator + Copy>(rt: &impl Abort, alloc: A) -> MemoryDevice<A> {
-    blank(alloc).expect(rt, "there is memory")
+/// A blank disk for a hill of two.
+pub(crate) fn blank_in<M: TestMemory>(rt: &impl Abort, memory: M) -> M::Disk {
+    memory.blank(SECTORS).expect(rt, "there is memory")
 }
 
-/// A blank device for a hill of two.
-pub(crate) fn new_in<'m>(rt: &impl Abort, memory: &'m Refusing<Global>) -> Tried<'m> {
-    lasting(blank_in(rt, memory))
+/// A device over such a disk.
+pub(crate) fn new_in<M: TestMemory>(rt: &impl Abort, memory: M) -> M::Device {
+    lasting(memory, blank_in(rt, memory))
 }
 
-/// A blank device for a hill of two that stops or fails after `calls` calls.
-pub(crate) fn blank_within<'m>(
+/// A device over such a disk that stops or fails after `calls` calls.
+pub(crate) fn blank_within<M: TestMemory>(
     rt: &impl Abort,
-    memory: &'m Refusing<Global>,
+    memory: M,
     calls: u64,
     kind: FuseKind,
-) -> Tried<'m> {
-    failing(blank_in(rt, memory), calls, kind)
+) -> M::Device {
+    memory.failing(blank_in(rt, memory), calls, kind)
 }
 
-/// What a device keeps that stops, if this is chosen of what it need not keep.
-pub(crate) fn image_of<'m>(
+/// A device over what a disk keeps that stops, if this is chosen of what it need not keep.
+pub(crate) fn image_of<M: TestMemory>(
     rt: &impl Abort,
-    device: &MemoryDevice<&'m Refusing<Global>>,
+    memory: M,
+    disk: &M::Disk,
     choice: &[u32],
-) -> Tried<'m> {
-    lasting(device.stopped(choice).expect(rt, "there is memory"))
+) -> M::Device {
+    lasting(memory, disk.image(choice).expect(rt, "there is memory"))
 }
 
 /// The settings of a hill of two.

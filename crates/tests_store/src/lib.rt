@@ -7,7 +7,8 @@
 //! - `growths`: what becomes of a hill if a growth of memory is refused, and which calls need none.
 //!
 //! `hills` makes hills and their devices, and `expecting` has what tests expect of a store, which they call by
-//! `tests_stores`. All stores are on one type of device, with one type of allocator. What is expected was counted by hand.
+//! `tests_stores`. All stores are on one type of device, with one type of allocator, which only `run` of `tests_stores` names: a proof over these
+//! types takes several times as long. What is expected was counted by hand.
 //!
 //! A test here must not show what a contract could say instead, nor what the built program shows: the bytes that a store
 //! writes, what it answers to sources, and results that a file keeps are in `bench/transcripts`. `bench/images` compares

@@ -8,10 +8,9 @@ use crate::hills::{created_on, new_in};
 use hill_store::{Reply, Store, Submission};
 use koth_hill::Verdict;
 use sector_disk::Device;
-use std::alloc::{Allocator, Global};
+use std::alloc::Allocator;
 use std::process::Abort;
-use tests_fixtures::Refusing;
-use tests_stores::{Counting, FIRST, Numbers, SECOND};
+use tests_stores::{FIRST, Numbers, SECOND, TestMemory, Trial, run};
 
 /// The table of a hill of one warrior.
 static ONE_ROW: [Numbers; 1] = [(1, 0, 0)];
@@ -82,12 +81,8 @@ fn expect_judged<D: Device, A: Allocator + Copy>(
 }
 
 /// One that is given up leaves the table and the device as they were, and the next one is judged and placed as if it were the first.
-fn expect_parts<D: Device + Drop>(
-    rt: &impl Abort,
-    memory: &Refusing<Global>,
-    device: Counting<'_, D>,
-) {
-    let mut store = created_on(rt, memory, device);
+fn expect_parts<M: TestMemory>(rt: &impl Abort, memory: M) {
+    let mut store = created_on(rt, memory, new_in(rt, memory));
     expect_reply(rt, &mut store, b"MOV 0,1", FIRST);
     given_up(rt, &mut store, b"DAT 0,0");
     expect_judged(rt, &mut store, b"JMP 0", &ONE_ROW, SECOND);
@@ -95,19 +90,8 @@ fn expect_parts<D: Device + Drop>(
     expect_calls(rt, store, 5 + 7 + 7);
 }
 
-#[test]
-fn a_submission_in_parts(rt: HostRuntime) {
-    let memory = Refusing::new(rt.alloc());
-    expect_parts(&rt, &memory, new_in(&rt, &memory));
-    drop(memory);
-}
-
 /// The steps and the end of a submission that is begun need no memory.
-fn expect_first<D: Device>(
-    rt: &impl Abort,
-    memory: &Refusing<Global>,
-    store: &mut Store<D, &Refusing<Global>>,
-) {
+fn expect_first<M: TestMemory>(rt: &impl Abort, memory: M, store: &mut Store<M::Device, M>) {
     let mut submission = begun(rt, store, b"MOV 0,1");
     memory.refuse(0, u64::MAX);
     let reply = match store.step(&mut submission) {
@@ -118,19 +102,20 @@ fn expect_first<D: Device>(
     expect_same(rt, &found, &(FIRST, 0), "without memory");
 }
 
-/// The same of the first one to a hill that is created on this device.
-fn expect_first_on<D: Device + Drop>(rt: &impl Abort, memory: &Refusing<Global>, device: D) {
-    let mut store = created_on(rt, memory, device);
-    expect_first(rt, memory, &mut store);
-    drop(store);
+/// A submission in parts, and then one whose steps have no memory, on a device that has its own from elsewhere. What is begun takes
+/// memory: `growths` refuses it.
+struct Steps;
+
+impl<R: Abort> Trial<R> for Steps {
+    fn run<M: TestMemory>(rt: &R, memory: M, disks: M) {
+        expect_parts(rt, memory);
+        let mut store = created_on(rt, memory, new_in(rt, disks));
+        expect_first(rt, memory, &mut store);
+        drop(store);
+    }
 }
 
-/// The device has its memory from elsewhere. What is begun takes memory: `growths` refuses it.
 #[test]
-fn steps_without_memory(rt: HostRuntime) {
-    let memory = Refusing::new(rt.alloc());
-    let disk = Refusing::new(rt.alloc());
-    expect_first_on(&rt, &memory, new_in(&rt, &disk));
-    drop(disk);
-    drop(memory);
+fn steps_of_submissions(rt: HostRuntime) {
+    run::<HostRuntime, Steps>(&rt, rt.alloc());
 }

@@ -3,13 +3,11 @@
 use crate::expecting::{expect_replies, expect_same, replies_of};
 use crate::hills::{blank_within, created_on, image_of, opened_on, small};
 use hill_store::{Refusal, Reply, Store};
-use sector_disk::{Device, FuseKind};
-use std::alloc::Global;
+use sector_disk::FuseKind;
 use std::process::Abort;
-use tests_fixtures::Refusing;
 use tests_stores::{
-    FIRST, Numbers, SECTORS, SOURCES, Tried, close, create, fell, numbers_at, open, placed, submit,
-    within,
+    FIRST, Numbers, SECTORS, SOURCES, TestMemory, Trial, close, create, fell, numbers_at, open,
+    placed, run, submit,
 };
 
 /// Numbers in a choice: one for each sector.
@@ -70,7 +68,7 @@ fn due_with(n: usize, calls: u64) -> Opens {
 }
 
 /// The device, after a creation and the four submissions.
-fn submitted_on<D: Device + Drop>(rt: &impl Abort, memory: &Refusing<Global>, device: D) -> D {
+fn submitted_on<M: TestMemory>(rt: &impl Abort, memory: M, device: M::Device) -> M::Device {
     match create(memory, device, small(rt)) {
         Ok(mut store) => {
             drop(replies_of(rt, &mut store, &SOURCES));
@@ -81,7 +79,7 @@ fn submitted_on<D: Device + Drop>(rt: &impl Abort, memory: &Refusing<Global>, de
 }
 
 /// What a device opens to.
-fn opens_to<D: Device + Drop>(rt: &impl Abort, memory: &Refusing<Global>, device: D) -> Opens {
+fn opens_to<M: TestMemory>(rt: &impl Abort, memory: M, device: M::Device) -> Opens {
     match open(memory, device) {
         Ok(store) => Ok(hill_of(rt, store)),
         Err((device, refusal)) => {
@@ -92,9 +90,9 @@ fn opens_to<D: Device + Drop>(rt: &impl Abort, memory: &Refusing<Global>, device
 }
 
 /// The hill of a store, which is dropped. The entry that comes next is that of a warrior which is submitted.
-fn hill_of<D: Device + Drop>(
+fn hill_of<M: TestMemory>(
     rt: &impl Abort,
-    mut store: Store<D, &Refusing<Global>>,
+    mut store: Store<M::Device, M>,
 ) -> (Numbers, Numbers, u64) {
     let (first, second) = (row_at(rt, &store, 0), row_at(rt, &store, 1));
     let reply = submit(&mut store, b"DAT 0,0");
@@ -112,11 +110,7 @@ fn entry_of(rt: &impl Abort, reply: Reply) -> u64 {
 }
 
 /// The row at a place of the table.
-fn row_at<D: Device>(
-    rt: &impl Abort,
-    store: &Store<D, &Refusing<Global>>,
-    place: usize,
-) -> Numbers {
+fn row_at<M: TestMemory>(rt: &impl Abort, store: &Store<M::Device, M>, place: usize) -> Numbers {
     match numbers_at(store, place).expect(rt, "there is memory") {
         Some(row) => row,
         None => NONE,
@@ -124,10 +118,10 @@ fn row_at<D: Device>(
 }
 
 /// An image of a device that stopped after `calls` calls opens to what is due.
-fn expect_image(
+fn expect_image<M: TestMemory>(
     rt: &impl Abort,
-    memory: &Refusing<Global>,
-    device: Tried<'_>,
+    memory: M,
+    device: M::Device,
     expected: Opens,
     calls: u64,
 ) {
@@ -145,45 +139,37 @@ fn choice_of(n: usize) -> [u32; CHOICES] {
 }
 
 /// The images: all that was not synced is lost, all of it is kept, and each sector by itself is kept.
-fn expect_images(rt: &impl Abort, memory: &Refusing<Global>, calls: u64) {
+fn expect_images<M: TestMemory>(rt: &impl Abort, memory: M, calls: u64) {
     let device = blank_within(rt, memory, calls, FuseKind::Stop);
-    let device = within(submitted_on(rt, memory, device));
+    let disk = memory.within(submitted_on(rt, memory, device));
     let (lost, kept) = due(calls);
-    expect_image(rt, memory, image_of(rt, &device, &[]), lost, calls);
-    expect_image(rt, memory, image_of(rt, &device, &ALL), kept, calls);
+    expect_image(rt, memory, image_of(rt, memory, &disk, &[]), lost, calls);
+    expect_image(rt, memory, image_of(rt, memory, &disk, &ALL), kept, calls);
     for n in 0..CHOICES {
-        let image = image_of(rt, &device, &choice_of(n));
+        let image = image_of(rt, memory, &disk, &choice_of(n));
         expect_image(rt, memory, image, due_with(n, calls), calls);
     }
-    drop(device);
-}
-
-#[test]
-fn a_stop_at_each_call(rt: HostRuntime) {
-    let memory = Refusing::new(rt.alloc());
-    for calls in 0..=21 {
-        expect_images(&rt, &memory, calls);
-    }
-    drop(memory);
+    drop(disk);
 }
 
 /// What the list is answered if the device fails once, after 17 calls.
 static CUT_SHORT: [Reply; 2] = [FIRST, Reply::Disk];
 
 /// A device that failed once, after 17 calls of the script.
-fn failed_once<D: Device + Drop>(rt: &impl Abort, memory: &Refusing<Global>, device: D) -> D {
+fn failed_once<M: TestMemory>(rt: &impl Abort, memory: M, device: M::Device) -> M::Device {
     let mut store = created_on(rt, memory, device);
     expect_replies(rt, &mut store, &SOURCES, &CUT_SHORT);
     close(store)
 }
 
 /// The rows of the hill, once it is opened again after a fault of its device, and what `JMP 0` is answered there.
-fn expect_around_a_fault<D: Device + Drop>(
+fn expect_around_a_fault<M: TestMemory>(
     rt: &impl Abort,
-    memory: &Refusing<Global>,
-    device: D,
+    memory: M,
+    kind: FuseKind,
     due: (Numbers, Reply),
 ) {
+    let device = blank_within(rt, memory, 17, kind);
     let mut store = opened_on(rt, memory, failed_once(rt, memory, device));
     let (first, second) = (row_at(rt, &store, 0), row_at(rt, &store, 1));
     let reply = submit(&mut store, b"JMP 0");
@@ -196,12 +182,21 @@ fn expect_around_a_fault<D: Device + Drop>(
     );
 }
 
+/// A stop at each call, and a write of a header that fails.
+struct Sweeps;
+
+impl<R: Abort> Trial<R> for Sweeps {
+    fn run<M: TestMemory>(rt: &R, memory: M, _: M) {
+        for calls in 0..=21 {
+            expect_images(rt, memory, calls);
+        }
+        let (lost, kept) = ((NONE, placed!(2, 2, 2)), ((2, 2, 0), fell!(3, 4)));
+        expect_around_a_fault(rt, memory, FuseKind::FailLost, lost);
+        expect_around_a_fault(rt, memory, FuseKind::FailKept, kept);
+    }
+}
+
 #[test]
-fn a_header_write_that_fails(rt: HostRuntime) {
-    let memory = Refusing::new(rt.alloc());
-    let lost = blank_within(&rt, &memory, 17, FuseKind::FailLost);
-    expect_around_a_fault(&rt, &memory, lost, (NONE, placed!(2, 2, 2)));
-    let kept = blank_within(&rt, &memory, 17, FuseKind::FailKept);
-    expect_around_a_fault(&rt, &memory, kept, ((2, 2, 0), fell!(3, 4)));
-    drop(memory);
+fn stops_and_a_fault(rt: HostRuntime) {
+    run::<HostRuntime, Sweeps>(&rt, rt.alloc());
 }

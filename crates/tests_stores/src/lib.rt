@@ -28,7 +28,7 @@ pub use calls::{
 };
 pub use hill_store::{MigrateFault, MigrateSide, Reply};
 pub use hills::{SECTORS, created, opened, refusal_to_create, refusal_to_open};
-pub use memory::{Counted, Disk, TestMemory, lasting};
+pub use memory::{Counted, Disk, TestMemory, Trial, lasting, run};
 pub use moves::{moved, tried};
 pub use old_format::narrowed;
 pub use sectors::{holds, sector, set_byte, with_zeros};

@@ -3,7 +3,8 @@
 //! Tests know it by these traits. A proof over the types that `devices` has would take several times as long.
 
 use sector_disk::{Device, Fault, FuseKind, MemoryDevice};
-use std::alloc::{AllocError, Allocator};
+use std::alloc::{AllocError, Allocator, Global};
+use tests_fixtures::Refusing;
 
 /// A device in memory.
 pub trait Disk: Device + Drop {
@@ -66,4 +67,19 @@ pub trait TestMemory: Allocator + Copy {
 /// A device that makes each call.
 pub fn lasting<M: TestMemory>(memory: M, disk: M::Disk) -> M::Device {
     memory.failing(disk, u64::MAX, FuseKind::Stop)
+}
+
+/// What a test tries, with what it has of the system.
+pub trait Trial<R> {
+    /// Tries it with stores in `memory`, and devices in this or in `disks`. Neither refuses anything yet.
+    fn run<M: TestMemory>(rt: &R, memory: M, disks: M);
+}
+
+/// Tries it in memories of its own. Only this names their type.
+pub fn run<R, T: Trial<R>>(rt: &R, alloc: Global) {
+    let memory = Refusing::new(alloc);
+    let disks = Refusing::new(alloc);
+    T::run(rt, &memory, &disks);
+    drop(disks);
+    drop(memory);
 }

@@ -4,20 +4,14 @@ use crate::expecting::{answered_on, expect_reply, expect_rows, expect_same};
 use crate::hills::{created_on, new_in, opened_on, small};
 use hill_store::{Refusal, Reply};
 use sector_disk::Device;
-use std::alloc::Global;
 use std::process::Abort;
-use tests_fixtures::Refusing;
-use tests_stores::{Counting, FIRST, ONE, close, create};
+use tests_stores::{Counted, FIRST, ONE, TestMemory, close, create};
 
 /// A device in memory takes a growth at the first write to a sector, as of the header of a hill that is created. A warrior is placed on
 /// the hill that is created there then.
-fn expect_none_created<D: Device + Drop>(
-    rt: &impl Abort,
-    memory: &Refusing<Global>,
-    disk: &Refusing<Global>,
-    device: D,
-) {
-    disk.refuse(0, 1);
+fn expect_none_created<M: TestMemory>(rt: &impl Abort, memory: M, disks: M) {
+    let device = new_in(rt, disks);
+    disks.refuse(0, 1);
     match create(memory, device, small(rt)) {
         Ok(store) => drop(store),
         Err((device, refusal)) => {
@@ -30,11 +24,11 @@ fn expect_none_created<D: Device + Drop>(
             drop(answered_on(rt, memory, device, &ONE));
         }
     }
-    expect_same(rt, &disk.refused(), &1, "growths refused");
+    expect_same(rt, &disks.refused(), &1, "growths of a device refused");
 }
 
 /// The hill that is opened on a device has no warrior, and one is placed there.
-fn expect_empty<D: Device + Drop>(rt: &impl Abort, memory: &Refusing<Global>, device: D) {
+fn expect_empty<M: TestMemory>(rt: &impl Abort, memory: M, device: M::Device) {
     let mut store = opened_on(rt, memory, device);
     expect_rows(rt, &store, 0);
     expect_reply(rt, &mut store, b"MOV 0,1", FIRST);
@@ -43,35 +37,26 @@ fn expect_empty<D: Device + Drop>(rt: &impl Abort, memory: &Refusing<Global>, de
 
 /// A growth of the device's memory, the first of these numbers, is refused while a warrior is submitted. The other one is that of the calls
 /// for which the device was asked.
-fn expect_refused<D: Device + Drop>(
-    rt: &impl Abort,
-    memory: &Refusing<Global>,
-    disk: &Refusing<Global>,
-    device: Counting<'_, D>,
-    growth: (u64, u64),
-) {
+fn expect_refused<M: TestMemory>(rt: &impl Abort, memory: M, disks: M, growth: (u64, u64)) {
     let (k, calls) = growth;
-    let mut store = created_on(rt, memory, device);
-    disk.refuse(k, 1);
+    let mut store = created_on(rt, memory, new_in(rt, disks));
+    disks.refuse(k, 1);
     expect_reply(rt, &mut store, b"MOV 0,1", Reply::Disk);
     expect_reply(rt, &mut store, b"MOV 0,1", Reply::Reopen);
     expect_rows(rt, &store, 0);
     let device = close(store);
-    expect_same(rt, &(device.calls, disk.refused()), &(calls, 1), "calls");
+    let found = (device.calls(), disks.refused());
+    expect_same(rt, &found, &(calls, 1), "calls");
     expect_empty(rt, memory, device);
 }
 
 /// No growth of the device's memory is the sixth while a warrior is submitted.
-fn expect_no_more<D: Device + Drop>(
-    rt: &impl Abort,
-    memory: &Refusing<Global>,
-    disk: &Refusing<Global>,
-    device: D,
-) {
-    let mut store = created_on(rt, memory, device);
-    disk.refuse(5, 1);
+fn expect_no_more<M: TestMemory>(rt: &impl Abort, memory: M, disks: M) {
+    let mut store = created_on(rt, memory, new_in(rt, disks));
+    disks.refuse(5, 1);
     expect_reply(rt, &mut store, b"MOV 0,1", FIRST);
-    expect_same(rt, &disk.refused(), &0, "growths refused");
+    expect_same(rt, &disks.refused(), &0, "growths of a device refused");
+    disks.refuse(0, 0);
     drop(store);
 }
 
@@ -81,15 +66,10 @@ static REFUSED: [(u64, u64); 5] = [(0, 5 + 1), (1, 5 + 2), (2, 5 + 3), (3, 5 + 4
 /// A warrior is placed by the first writes to the four sectors of a slot, and, after a sync, to a header's: five growths. The store whose
 /// device found no memory is as it was before, and so is the hill that is opened on its device. It calls its device no more: creating
 /// the hill made five calls.
-#[test]
-fn of_a_device(rt: HostRuntime) {
-    let memory = Refusing::new(rt.alloc());
-    let disk = Refusing::new(rt.alloc());
-    expect_none_created(&rt, &memory, &disk, new_in(&rt, &disk));
+pub(super) fn expect_device_growths<M: TestMemory>(rt: &impl Abort, memory: M, disks: M) {
+    expect_none_created(rt, memory, disks);
     for refused in &REFUSED {
-        expect_refused(&rt, &memory, &disk, new_in(&rt, &disk), *refused);
+        expect_refused(rt, memory, disks, *refused);
     }
-    expect_no_more(&rt, &memory, &disk, new_in(&rt, &disk));
-    drop(disk);
-    drop(memory);
+    expect_no_more(rt, memory, disks);
 }
