@@ -60,25 +60,26 @@ recovered {layout = layout} facts old mid new given h hill arena front back sett
     shows_old lawful = shown facts mid (current (facts.disk old)) h hill (ap current (settled lawful)) (front.same_laws.1 lawful)
         (subst (λ x. IsNewestIn layout (current (facts.disk old)) x) (sym found.same) (newest lawful)) found.read
 
+-- why the hill of the newest header is not to be had
+pub reason_of : {D : Type 0} {layout : Layout} (facts : DeviceFacts D) (old mid new : D) (h : HeaderParts) (why : Refusal) → facts.size mid ≡ facts.size old → (facts.lawful old → facts.lawful mid) → (facts.lawful old → current (facts.disk mid) ≡ current (facts.disk old)) → (facts.lawful old → IsNewestIn layout (current (facts.disk old)) h) → HillRefused layout facts mid new h why → facts.lawful old → RefusesIn layout (facts.size old) (current (facts.disk old)) why
+reason_of {layout = layout} facts old mid new h Refusal.TooSmall size laws same newest few lawful = inr (h, newest lawful, subst (λ n. n < sectors_in layout h.settings.capacity) size few)
+reason_of facts old mid new h Refusal.Disk size laws same newest rose lawful = tt
+reason_of facts old mid new h Refusal.Memory size laws same newest any lawful = tt
+reason_of facts old mid new h Refusal.Occupied size laws same newest never lawful = never
+reason_of facts old mid new h Refusal.NotAHill size laws same newest never lawful = absurd never
+reason_of {layout = layout} facts old mid new h Refusal.Damaged size laws same newest damaged lawful = (
+  h,
+  newest lawful,
+  subst (λ n. sectors_in layout h.settings.capacity ≤ n) size damaged.0,
+  (λ hill. λ shows. damaged.1 (laws lawful) hill.members
+      (subst (λ s. AllHeld layout s (current (facts.disk mid)) h.entries hill.members) (sym shows.settings)
+      (subst (λ image. AllHeld layout hill.settings image h.entries hill.members) (sym (same lawful)) shows.members))),
+)
+
 -- it was not
 pub not_recovered : {D : Type 0} {layout : Layout} (facts : DeviceFacts D) (old mid new : D) (h : HeaderParts) (why : Refusal) → IsKept facts old mid → IsKept facts mid new → (facts.lawful old → facts.disk mid ≡ synced (facts.disk old)) → (facts.lawful mid → facts.disk new ≡ facts.disk mid) → (facts.lawful old → IsNewestIn layout (current (facts.disk old)) h) → HillRefused layout facts mid new h why → IsNotOpenedIn layout facts old new why
 not_recovered {layout = layout} facts old mid new h why front back settled same newest refused = record {
   cause = λ is. rose_more facts old mid new front.later back.later (subst (λ x. HillRefused layout facts mid new h x) is refused);
-  reason = λ lawful. reason_of why refused lawful;
+  reason = reason_of facts old mid new h why front.same_size front.same_laws.1 (λ lawful. ap current (settled lawful)) newest refused;
   kept = λ lawful. inr (same (front.same_laws.1 lawful) ∙ settled lawful);
 }
-  where
-    reason_of : (x : Refusal) → HillRefused layout facts mid new h x → facts.lawful old → RefusesIn layout (facts.size old) (current (facts.disk old)) x
-    reason_of Refusal.TooSmall few lawful = inr (h, newest lawful, subst (λ n. n < sectors_in layout h.settings.capacity) front.same_size few)
-    reason_of Refusal.Disk rose lawful = tt
-    reason_of Refusal.Memory any lawful = tt
-    reason_of Refusal.Occupied never lawful = never
-    reason_of Refusal.NotAHill never lawful = absurd never
-    reason_of Refusal.Damaged damaged lawful = (
-      h,
-      newest lawful,
-      subst (λ n. sectors_in layout h.settings.capacity ≤ n) front.same_size damaged.0,
-      (λ hill. λ shows. damaged.1 (front.same_laws.1 lawful) hill.members
-          (subst (λ s. AllHeld layout s (current (facts.disk mid)) h.entries hill.members) (sym shows.settings)
-          (subst (λ image. AllHeld layout hill.settings image h.entries hill.members) (sym (ap current (settled lawful))) shows.members))),
-    )

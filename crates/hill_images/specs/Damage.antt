@@ -1,5 +1,5 @@
 -- What a hill in the new format has lost: a header, and warriors.
-use Rattle.std.specs.Prelude.{◌≡◌, ◌⊎◌, ℕ, List, [], ◌∷◌, Some, take, codes}
+use Rattle.std.specs.Prelude.{◌≡◌, ◌⊎◌, ℕ, List, [], ◌∷◌, Option, Some, None, take, codes}
 use Rattle.{war_types.specs.{declared.settings.RawSettings.RawSettings, Warrior.WarriorParts}, hill_bytes.specs.{declared.header.HeaderEntry.HeaderEntry, Layout.{HeaderParts, new_layout}}}
 use Rattle.hill_images.specs.{Found.IsFoundIn, Stands.IsNewestIn, Reading.SlotHolds}
 
@@ -19,14 +19,14 @@ LosesHeader even odd = (HoldsHeaderAt 0 even × IsLostAt 1 odd) ⊎ (HoldsHeader
 abbrev pub HoldsWarrior : RawSettings → (ℕ → List ℕ) → ℕ → Type 0
 HoldsWarrior s image slot = (w : WarriorParts) × SlotHolds new_layout s image slot w
 
--- of these entries this is the number of the first whose slot holds none
-abbrev pub IsFirstDamaged : RawSettings → (ℕ → List ℕ) → List HeaderEntry → ℕ → Type 0
-IsFirstDamaged s image [] entry = ⊥
-IsFirstDamaged s image (e ∷ es) entry =
-    ((entry ≡ e.entry) × (HoldsWarrior s image e.slot → ⊥))
-    ⊎ (HoldsWarrior s image e.slot × IsFirstDamaged s image es entry)
+-- what is found of the entries: the number of the first whose slot holds none, or nothing only if each slot holds one
+abbrev pub FirstDamaged : RawSettings → (ℕ → List ℕ) → List HeaderEntry → Option ℕ → Type 0
+FirstDamaged s image [] found = found ≡ None
+FirstDamaged s image (e ∷ es) found =
+    ((found ≡ Some e.entry) × (HoldsWarrior s image e.slot → ⊥))
+    ⊎ (HoldsWarrior s image e.slot × FirstDamaged s image es found)
 
 -- of those that the newest header names
-abbrev pub IsDamaged : (ℕ → List ℕ) → ℕ → Type 0
-IsDamaged image entry =
-    (h : HeaderParts) × IsNewestIn new_layout image h × IsFirstDamaged h.settings image h.entries entry
+abbrev pub IsDamaged : (ℕ → List ℕ) → Option ℕ → Type 0
+IsDamaged image found =
+    (h : HeaderParts) × IsNewestIn new_layout image h × FirstDamaged h.settings image h.entries found

@@ -1,5 +1,5 @@
 -- What is told of a hill that was looked at and isn't shown, and what it has lost.
-use Rattle.std.specs.{Prelude.{◌≡◌, ◌⊎◌, ◌↔◌, ℕ, Bool, IsTrue, List}, Borrow.Bor}
+use Rattle.std.specs.{Prelude.{◌≡◌, ◌⊎◌, ◌↔◌, ℕ, Bool, IsTrue, List, Some}, Borrow.Bor}
 use Rattle.{sector_disk.specs.{Facts.DeviceFacts, Memory.MemoryState}, hill_images.specs.{Damage.{IsDamaged, LosesHeader}, Opening.HoldsOld, declared.refusal.Refusal.Refusal}}
 use Rattle.hill_look.specs.{Meanwhile.StoodAt, Looked.{IsNotSeen, WasTaken, shown, taken}, declared.refusal.LookRefusal.LookRefusal}
 use Rattle.koth_commands.specs.declared.{cause.Reason.Reason, trouble.{Fault.Fault, Trouble.Trouble}}
@@ -20,7 +20,7 @@ pub record IsLostSeen {S : Type 0} (facts : DeviceFacts S) (old new : S) (lost :
 
 -- a warrior that can't be read, the first one, with this entry
 abbrev pub IsDamagedSeen : {S : Type 0} → DeviceFacts S → S → S → ℕ → Type 0
-IsDamagedSeen facts old new entry = Sees facts old new (λ image. IsDamaged image entry)
+IsDamagedSeen facts old new entry = Sees facts old new (λ image. IsDamaged image (Some entry))
 
 -- what is told if there is no hill: that it is one of the old format only if one was read
 abbrev pub TellsNone : {S : Type 0} → DeviceFacts S → Bor (List ℕ) → S → S → Trouble → Type 0

@@ -60,7 +60,7 @@ pub(crate) fn damaged_seen<S: Source, A: Allocator + Copy>(alloc: A, source: &mu
     ensures damaged { S.facts.lawful source.old → IfSome result (IsDamagedSeen S.facts source.old source.new) }
 {
     match look(alloc, source) {
-        Ok(mut device) => first_damaged(alloc, &mut device),
+        Ok(mut device) => first_damaged(alloc, &mut device).unwrap_or(None),
         Err(_) => None,
     }
 }
