@@ -1,6 +1,6 @@
 -- A contest of one warrior, which is called mine, against another: their match with mine as the older one, or both orders.
 use Rattle.std.specs.Prelude.{ℕ, ◌+◌, Bool, true, false}
-use Rattle.{war_types.specs.{Warrior.WarriorParts, declared.settings.RawSettings.RawSettings}, koth_match.specs.Match.match_of, koth_hill.specs.Hill.older_points}
+use Rattle.{war_types.specs.{Warrior.WarriorParts, declared.settings.RawSettings.RawSettings}, koth_match.specs.Match.match_of}
 use Rattle.koth_text.specs.{declared.tally.Tally.Tally, Tally.{of_older, of_younger}}
 
 abbrev pub tally : ℕ → ℕ → ℕ → Tally
@@ -25,7 +25,3 @@ added a b = tally (a.won + b.won) (a.lost + b.lost) (a.tied + b.tied)
 abbrev pub contest_tally : RawSettings → Bool → WarriorParts → WarriorParts → Tally
 contest_tally s false mine other = of_older (match_of s mine other)
 contest_tally s true mine other = added (of_older (match_of s mine other)) (of_younger (match_of s other mine))
-
--- what these rounds are worth, as a hill counts them
-abbrev pub points_of : Tally → ℕ
-points_of t = older_points (record { older_wins = t.won; younger_wins = t.lost; ties = t.tied })

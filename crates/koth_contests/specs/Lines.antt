@@ -3,7 +3,7 @@ use Rattle.std.specs.Prelude.{ℕ, List, [], ◌++◌, codes, decimal}
 use Rattle.war_types.specs.Warrior.{WarriorParts}
 use Rattle.{koth_text.specs.{Columns.padded, declared.columns.Alignment.Alignment, declared.tally.Tally.Tally}, koth_words.specs.declared.requests.View.View}
 use Rattle.koth_json.specs.Contest.{ContenderParts, match_line, sum_line as sum_object}
-use Rattle.{koth_commands.specs.Name.shown_name, koth_contests.specs.Contest.points_of}
+use Rattle.{koth_commands.specs.Name.shown_name, koth_text.specs.Tally.points_of}
 
 -- a warrior, and what messages call its source
 pub record Entrant : Type 0 where

@@ -1,7 +1,7 @@
 //! A contest of one warrior against another, in counts and points.
 
 ghost use Rattle.std.specs.Prelude.{◌≡◌, ◌+◌, ◌≤◌};
-ghost use Rattle.{war_types.specs.Warrior.Fits, koth_contests.specs.Contest.{added, contest_tally, most_rounds, points_of, rounds_in}};
+ghost use Rattle.{war_types.specs.Warrior.Fits, koth_contests.specs.Contest.{added, contest_tally, most_rounds, rounds_in}};
 
 use koth_match::fight;
 use koth_text::Tally;
@@ -47,12 +47,4 @@ pub fn added(a: Tally, b: Tally) -> Tally
         lost: a.lost + b.lost,
         tied: a.tied + b.tied,
     }
-}
-
-/// What these rounds are worth: 3 points for each that was won, and 1 for each tie.
-pub fn points_of(tally: Tally) -> u64
-    requires { points_of tally ≤ u64.MAX }
-    ensures { result ≡ points_of tally }
-{
-    3 * tally.won + tally.tied
 }

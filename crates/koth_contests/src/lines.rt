@@ -2,9 +2,8 @@
 
 ghost use Rattle.std.specs.Prelude.{◌≡◌, ◌≤◌, ◌++◌, codes, decimal, IfOk, OnOk};
 ghost use Rattle.{koth_text.specs.Columns.padded, koth_json.specs.Contest.contender_parts};
-ghost use Rattle.koth_contests.specs.{Contest.points_of, Lines.{contender, contest_line, counts_columns, counts_told, entrant, heading, opponent_columns, opponent_told, sum_line}};
+ghost use Rattle.{koth_text.specs.Tally.points_of, koth_contests.specs.Lines.{contender, contest_line, counts_columns, counts_told, entrant, heading, opponent_columns, opponent_told, sum_line}};
 
-use crate::contest::points_of;
 use koth_commands::put_name;
 use koth_json::{Contender, put_match, put_sum};
 use koth_text::cells::number;
@@ -58,7 +57,7 @@ fn put_contest<A: Allocator>(
     match view {
         View::Plain => put_told_contest(line, other, tally),
         View::Table => put_contest_columns(line, other, tally),
-        View::Json => put_match(line, mine, other, tally, points_of(tally)),
+        View::Json => put_match(line, mine, other, tally, tally.points()),
     }
 }
 
@@ -91,7 +90,7 @@ fn put_all<A: Allocator>(
     match view {
         View::Plain => put_told_sum(line, tally),
         View::Table => put_sum_columns(line, tally),
-        View::Json => put_sum(line, mine, count, tally, points_of(tally)),
+        View::Json => put_sum(line, mine, count, tally, tally.points()),
     }
 }
 
@@ -161,7 +160,7 @@ fn put_told<A: Allocator>(line: &mut Vec<u8, A>, tally: Tally) -> Result<(), All
     line.extend_from_slice(b" ")?;
     put_number(line, tally.tied)?;
     line.extend_from_slice(b" ")?;
-    put_number(line, points_of(tally))
+    put_number(line, tally.points())
 }
 
 fn put_columns<A: Allocator>(line: &mut Vec<u8, A>, tally: Tally) -> Result<(), AllocError>
@@ -171,7 +170,7 @@ fn put_columns<A: Allocator>(line: &mut Vec<u8, A>, tally: Tally) -> Result<(), 
     put_right(line, 6, tally.won)?;
     put_right(line, 6, tally.lost)?;
     put_right(line, 6, tally.tied)?;
-    put_right(line, 8, points_of(tally))
+    put_right(line, 8, tally.points())
 }
 
 /// Puts a number at the right end of `places` places.

@@ -110,7 +110,7 @@ const TO_SERVE: [Row; 4] = [
     },
     Row {
         name: "show",
-        about: "Writes a hill's table: rank, entry, score, age, name and author of each warrior",
+        about: "Writes a hill's table: rank, entry, points, age, name and author of each warrior",
         arguments: &[
             HILL_FILE,
             Flag(

@@ -31,8 +31,8 @@ no_headings : table_text (Alignment.Left ∷ []) ((codes "a" ∷ []) ∷ []) ≡
 no_headings = refl
 
 counts : bout_view (warrior_parts [] 0 (codes "Imp") (codes "A. K. Dewdney")) (warrior_parts [] 0 (codes "Scanner") (codes "koth")) (record { older_wins = 1; younger_wins = 9; ties = 0 })
-    ≡ codes "won  lost  tied  warrior  author\n"
-    ++ codes "  1     9     0  Imp      A. K. Dewdney\n"
-    ++ codes "  9     1     0  Scanner  koth\n"
+    ≡ codes "won  lost  tied  points  warrior  author\n"
+    ++ codes "  1     9     0       3  Imp      A. K. Dewdney\n"
+    ++ codes "  9     1     0      27  Scanner  koth\n"
 unfolding digits
 counts = refl

@@ -1,7 +1,7 @@
 //! The counts of one match.
 
-ghost use Rattle.std.specs.Prelude.{◌≡◌, ◌∷◌, [], IfOk};
-ghost use Rattle.koth_text.specs.Bout.{bout_view, rounds_cells, rounds_heading};
+ghost use Rattle.std.specs.Prelude.{◌≡◌, ◌≤◌, ◌∷◌, [], IfOk};
+ghost use Rattle.koth_text.specs.{Bout.{bout_view, rounds_cells, rounds_heading}, Tally.points_of};
 
 use crate::cells::{Cells, named, number, word};
 use crate::columns::{Alignment, columns_text};
@@ -10,8 +10,9 @@ use koth_match::Bout;
 use std::alloc::{AllocError, Allocator};
 use war_types::{Title, Warrior};
 
-/// The sides of the three columns of rounds, and of the two of names after them.
-pub const SIDES: [Alignment; 5] = [
+/// The sides of the three columns of rounds, of the points, and of the two of names after them.
+pub const SIDES: [Alignment; 6] = [
+    Alignment::Right,
     Alignment::Right,
     Alignment::Right,
     Alignment::Right,
@@ -20,7 +21,7 @@ pub const SIDES: [Alignment; 5] = [
 ];
 
 /// The counts of a match with headings: a line for the older warrior and then a line for the younger, each with the rounds that it won,
-/// lost and tied, its name and its author. The error is lack of memory.
+/// lost and tied, its points, its name and its author. The error is lack of memory.
 pub fn bout_view<A: Allocator + Copy, B: Allocator, C: Allocator>(
     alloc: A,
     older: &Warrior<B>,
@@ -41,12 +42,13 @@ fn side_of<A: Allocator, B: Allocator>(
     warrior: &Warrior<B>,
     rounds: Tally,
 ) -> Result<Cells<A>, AllocError>
+    requires { points_of rounds ≤ u64.MAX }
     ensures { IfOk result (λ cells. cells ≡ rounds_cells warrior.now.name warrior.now.author rounds) }
 {
     cells_of(alloc, warrior.name(), warrior.author(), rounds)
 }
 
-/// The headings of rounds and names. The error is lack of memory.
+/// The headings of rounds, points and names. The error is lack of memory.
 pub fn heading<A: Allocator>(alloc: A) -> Result<Cells<A>, AllocError>
     ensures { IfOk result (λ cells. cells ≡ rounds_heading) }
 {
@@ -56,19 +58,21 @@ pub fn heading<A: Allocator>(alloc: A) -> Result<Cells<A>, AllocError>
             word(b"won"),
             word(b"lost"),
             word(b"tied"),
+            word(b"points"),
             word(b"warrior"),
             word(b"author"),
         ],
     )
 }
 
-/// The cells of a warrior with its rounds. The error is lack of memory.
+/// The cells of a warrior with its rounds and their points. The error is lack of memory.
 pub fn cells_of<A: Allocator>(
     alloc: A,
     name: &Title,
     author: &Title,
     rounds: Tally,
 ) -> Result<Cells<A>, AllocError>
+    requires { points_of rounds ≤ u64.MAX }
     ensures { IfOk result (λ cells. cells ≡ rounds_cells name.now author.now rounds) }
 {
     Cells::of(
@@ -77,6 +81,7 @@ pub fn cells_of<A: Allocator>(
             number(rounds.won),
             number(rounds.lost),
             number(rounds.tied),
+            number(rounds.points()),
             named(name),
             named(author),
         ],

@@ -1,7 +1,7 @@
 //! The rounds of a match from one side.
 
-ghost use Rattle.std.specs.Prelude.{◌≡◌};
-ghost use Rattle.koth_text.specs.Tally.{of_older, of_younger};
+ghost use Rattle.std.specs.Prelude.{◌≡◌, ◌≤◌};
+ghost use Rattle.koth_text.specs.Tally.{of_older, of_younger, points_of};
 
 use koth_match::Bout;
 
@@ -37,5 +37,13 @@ impl Tally {
             lost: u64::from(bout.older_wins),
             tied: u64::from(bout.ties),
         }
+    }
+
+    /// What these rounds are worth: 3 points for each that was won, and 1 for each tie.
+    pub fn points(self) -> u64
+        requires { points_of self ≤ u64.MAX }
+        ensures { result ≡ points_of self }
+    {
+        3 * self.won + self.tied
     }
 }

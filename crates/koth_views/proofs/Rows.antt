@@ -52,8 +52,8 @@ two_before = kept_of settings 2 (entered 1 1 (codes "Imp") ∷ entered 2 0 (code
 placed : placed_text (roster two_before) two_left (record { entry = 3; rank = 1; score = 22 })
     ≡ codes "Scanner by koth is warrior 3 of this hill: rank 1 of 2, 22 points\n"
     ++ codes "Imp by koth (entry 1) fell\n"
-    ++ codes "won  lost  tied  warrior  author\n"
-    ++ codes "  7     2     1  Dwarf    koth\n"
+    ++ codes "won  lost  tied  points  warrior  author\n"
+    ++ codes "  7     2     1      22  Dwarf    koth\n"
 unfolding digits
 placed = refl
 

@@ -193,7 +193,7 @@ fn points_with<B: Allocator>(hill: &Hill<B>, bouts: &[Bout], row: &Row<'_>) -> u
     ensures { result ≡ points_with hill.now bouts.now (row_parts row.now) }
 {
     let bout = bout_with(hill, bouts, row.entry);
-    u64::from(row.score) + 3 * u64::from(bout.older_wins) + u64::from(bout.ties)
+    u64::from(row.score) + Tally::of_older(bout).points()
 }
 
 /// The result of this entry, of those at their places.

@@ -1,9 +1,9 @@
 -- Each address of a walk is a number of instructions among its lines, and each of an expansion as well.
-use Rattle.std.proofs.Common.{◌≡◌, ℕ, zero, suc, ◌+◌, ◌<◌, Bool, if◌then◌else◌, List, [], ◌∷◌, ◌++◌, length, take, drop, unwrap_or, Option, Some, None, Result, Ok, Err, IfOk, refl, arith, true}
+use Rattle.std.proofs.Common.{◌≡◌, ℕ, zero, suc, ◌+◌, ◌<◌, Bool, if◌then◌else◌, List, [], ◌∷◌, ◌++◌, length, take, drop, unwrap_or, Option, Some, None, Result, Ok, Err, IfOk, refl, ap, arith, true}
 use Rattle.{std.proofs.Common.{false, nat_lt, sym, ◌∙◌}, std.specs.Bool.⊤, std.proofs.lemmas.List.{take_all, take-append-le, length-append}, std.specs.Str.bytes_eq}
 use Rattle.{war_types.specs.declared.fault.AsmKind.AsmKind, redcode_lines.specs.Source.live_lines, redcode_names.specs.Gives.{◌>>=◌, fault_at}}
 use Rattle.redcode_expand.specs.Walk.{ExpandedLine, WalkState, Begun, begun, begun_as, begun_of, closed, copied, copies, copies_of, counted, equated, labelled, step, step_by, until_end}
-use Rattle.redcode_expand.specs.{Walk.{walk, walk_all, walk_begin, with_line, with_other, with_word, worded}, Laws.{instruction_of, instructions, before_at, IsPlace, AreCounted, LabelsStandBehindInstructions}}
+use Rattle.redcode_expand.specs.{Walk.{walk, walk_all, walk_begin, with_line, with_other, with_word, worded}, Laws.{instruction_of, instructions, before_at, AreFrom, AreLabels, IsCounted, IsPlace, AreCounted, LabelsStandBehindInstructions}}
 use Rattle.redcode_expand.specs.Expansion.{all_replaced, expansion, finished, line_replaced}
 use Rattle.redcode_expand.proofs.Words.{AsmFault, RawSettings, Piece, SourceLine, labels_of, Blocks, Parsed, finish, one_line, block, open_for, parsed, source_lines, Counter, counter_of}
 use Rattle.redcode_expand.proofs.Words.{in_copies, LabelList, Names, all_defined, but_last, defined, equ_line, equ_named, for_labels, address_of, EquList, Word, LineKind, LineForm}
@@ -23,14 +23,6 @@ pub either : {A : Type 0} (P : A → Type 0) (b : Bool) (m n : Result A AsmFault
 either P b m n h1 h2 = grind arith
 
 -- ---- lines and labels
-
-abbrev pub AreFrom : ℕ → List ExpandedLine → Type 0
-AreFrom n [] = ⊤
-AreFrom n (line ∷ lines) = (line.before ≡ n) × AreFrom (n + instruction_of line.kind) lines
-
-abbrev pub AreLabels : List ExpandedLine → LabelList → Type 0
-AreLabels lines [] = ⊤
-AreLabels lines (label ∷ labels) = IsPlace lines label.1 × AreLabels lines labels
 
 instructions-more : (lines : List ExpandedLine) (line : ExpandedLine) → instructions (lines ++ line ∷ []) ≡ instructions lines + instruction_of line.kind
 instructions-more [] line = omega arith
@@ -108,11 +100,6 @@ for-names lines s line address labels names is are =
     (λ found. Ok (found.0, unwrap_or found.1 [])) (last-names lines s line address labels names is are) (λ found now. now)
 
 -- ---- the steps of a walk
-
-pub record IsCounted (st : WalkState) : Type 0 where
-  pub before : st.before ≡ instructions st.lines
-  pub lines : AreFrom 0 st.lines
-  pub labels : AreLabels st.lines st.names.labels
 
 here : (st : WalkState) → IsCounted st → IsPlace st.lines st.before
 here st is = place-here st.lines st.before is.before
@@ -203,12 +190,16 @@ holds-walk s cs (open_for for) st is = holds-until (λ st. Err (fault_at for.num
 pub holds-all : (s : RawSettings) (source : Parsed) → Holds IsCounted (walk_all s source walk_begin)
 holds-all s source = grind (arith, holds-walk)
 
-counts-of : (m : Result WalkState AsmFault) → Holds IsCounted m → IfOk m (λ st. st.before ≡ instructions st.lines)
-counts-of (Ok st) is = is.before
-counts-of (Err fault) is = tt
+kept-of : (m : Result WalkState AsmFault) → Holds IsCounted m → IfOk m IsCounted
+kept-of (Ok st) is = is
+kept-of (Err fault) is = tt
 
 pub labels-stand : (s : RawSettings) → LabelsStandBehindInstructions s
-labels-stand s = λ source. counts-of (walk_all s source walk_begin) (holds-all s source)
+labels-stand s = record {
+  begun = record { before = refl; lines = tt; labels = tt };
+  kept = λ cs blocks st is. kept-of (walk s cs blocks st) (holds-walk s cs blocks st is);
+  labels = λ line names st is. ap (λ before. all_defined s line before names st.names >>= λ found. Ok (record st { names = found })) is.before;
+}
 
 -- ---- the names of EQUs replaced
 

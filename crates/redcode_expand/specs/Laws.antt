@@ -1,8 +1,8 @@
 -- What holds of every walk and of every expansion: a block is its body written out, and addresses count instructions.
-use Rattle.std.specs.Prelude.{◌≡◌, ◌<◌, ◌≤◌, ℕ, ◌+◌, zero, suc, List, [], ◌∷◌, length, take, Some, IfOk}
+use Rattle.std.specs.Prelude.{◌≡◌, ◌<◌, ◌≤◌, ℕ, ◌+◌, zero, suc, List, [], ◌∷◌, length, take, Some, Ok, IfOk}
 use Rattle.{war_types.specs.declared.settings.RawSettings.RawSettings, redcode_lines.specs.{declared.line.LineKind.LineKind, Line.{SourceLine, labels_of}}}
-use Rattle.{redcode_lines.specs.Block.{Blocks, Parsed, finish, one_line, block, open_for}, redcode_copies.specs.Counter.{Counter, counter_of, in_copy}}
-use Rattle.{redcode_names.specs.{Gives.◌>>=◌, Name.address_of}, redcode_expand.specs.{Walk.{ExpandedLine, WalkState, begun_of, copies, labelled, until_end, walk, walk_all, walk_begin}, Expansion.Expansion}}
+use Rattle.{redcode_lines.specs.Block.{Blocks, finish, one_line, block, open_for}, redcode_copies.specs.Counter.{Counter, counter_of, in_copy}}
+use Rattle.{redcode_names.specs.{Gives.◌>>=◌, Name.{LabelList, address_of, all_defined}}, redcode_expand.specs.{Walk.{ExpandedLine, WalkState, begun_of, copies, labelled, until_end, walk, walk_begin}, Expansion.Expansion}}
 use Rattle.redcode_lines.specs.declared.line.LineKind.TheVariants as lines
 
 -- ---- blocks
@@ -44,10 +44,29 @@ pub record IsPlace (lines : List ExpandedLine) (address : ℕ) : Type 0 where
   pub within : behind ≤ length lines
   pub counts : address ≡ instructions (take behind lines)
 
--- whatever is walked over, the number of instructions so far is that of the instructions among its lines: a label gets that number for its address
--- (`labelled`), so that is the number of instructions before it
-abbrev pub LabelsStandBehindInstructions : RawSettings → Type 0
-LabelsStandBehindInstructions s = (source : Parsed) → IfOk (walk_all s source walk_begin) (λ st. st.before ≡ instructions st.lines)
+-- the first of these lines says that this number of instructions stands before it, and each other one how many more
+abbrev pub AreFrom : ℕ → List ExpandedLine → Type 0
+AreFrom n [] = Unit {0}
+AreFrom n (line ∷ lines) = (line.before ≡ n) × AreFrom (n + instruction_of line.kind) lines
+
+-- the address of each of these labels is a place among the lines
+abbrev pub AreLabels : List ExpandedLine → LabelList → Type 0
+AreLabels lines [] = Unit {0}
+AreLabels lines (label ∷ labels) = IsPlace lines label.1 × AreLabels lines labels
+
+-- a walk has counted the instructions among its lines
+pub record IsCounted (st : WalkState) : Type 0 where
+  pub before : st.before ≡ instructions st.lines
+  pub lines : AreFrom 0 st.lines
+  pub labels : AreLabels st.lines st.names.labels
+
+-- every walk goes on counting, that over a copy of a body too, and a label gets for its address the number of instructions among the lines that were
+-- written out before it
+pub record LabelsStandBehindInstructions (s : RawSettings) : Type 0 where
+  pub begun : IsCounted walk_begin
+  pub kept : (cs : List Counter) (blocks : Blocks) (st : WalkState) → IsCounted st → IfOk (walk s cs blocks st) IsCounted
+  pub labels : (line : ℕ) (names : List (List ℕ)) (st : WalkState) → IsCounted st
+      → labelled s line names st ≡ (all_defined s line (instructions st.lines) names st.names >>= λ found. Ok (record st { names = found }))
 
 -- each line says how many instructions stand before it, and each label's address is such a number
 pub record AreCounted (expanded : Expansion) : Type 0 where
