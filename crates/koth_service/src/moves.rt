@@ -7,15 +7,13 @@ ghost use Rattle.koth_service.specs.declared.connections.Stage.TheVariants as st
 use crate::answering::answer_visit;
 use crate::connections::Stage;
 use crate::host::Host;
+use crate::reading::CHUNK;
 use crate::sockets::{Came, Sockets, Went};
 use crate::unsent::Unsent;
 use hill_store::Store;
 use koth_http::Visit;
 use sector_disk::Device;
 use std::alloc::{AllocError, Allocator};
-
-/// The most bytes that one read takes.
-const CHUNK: usize = 4096;
 
 /// What became of a connection.
 #[derive(Drop)]

@@ -11,7 +11,7 @@ use sector_disk::Device;
 use std::alloc::Allocator;
 
 /// The most bytes that one read takes.
-const CHUNK: usize = 4096;
+pub(crate) const CHUNK: usize = 4096;
 
 /// Reads what each peer has room for, once from each.
 pub(crate) fn read_all<S: Sockets, D: Device, A: Allocator + Copy, H: Host<D, A>, E: LogWrite>(

@@ -6,14 +6,12 @@ ghost use Rattle.koth_session.specs.Streams.{end_of, GoesOn};
 
 use crate::end::PeerEnd;
 use crate::peer::Peer;
+use crate::waiting::WAITING_MOST;
 use hill_store::Store;
 use koth_protocol::{Counted, ReadFault, WriteFault, send};
 use sector_disk::Device;
 use std::alloc::{AllocError, Allocator};
 use std::io::{Read, Write};
-
-/// Bytes that are read at once.
-const CHUNK: usize = 4096;
 
 /// How a session ended.
 #[derive(Clone, Copy, Debug, PartialEq, Eq)]
@@ -74,7 +72,7 @@ fn serve<R: Read, W: Write, D: Device, A: Allocator + Copy>(
     ensures read_fault { result ≡ SessionEnd.ReadFault → Rose input.old.faults input.new.faults }
     ensures write_fault { result ≡ SessionEnd.WriteFault → Rose output.old.faults output.new.faults }
 {
-    let mut chunk = [0; CHUNK];
+    let mut chunk = [0; WAITING_MOST];
     'steps: while peer.end().is_none() {
         if peer.is_due() {
             if let Some(end) = answer_next(alloc, peer, output, store) {

@@ -80,7 +80,7 @@ static COMMANDS: [Command; 14] = commands! {
         => "--core 64 --cycles 100 --processes 8 --length 10 --distance 10 --rounds 2 --capacity 2 --read-limit 0 --write-limit 0\n";
     1 + 6 + 1 + 1, 10, 0 => "koth try growths.hill growths.red", "" => PLACED;
     1 + 6 + 1 + 1, 10, 15 => "koth try growths.hill growths.red --table", ""
-        => "PLACED 2 2 2\nwon  lost  tied  warrior  author\n  0     0     2  Unnamed  Anonymous\n";
+        => "PLACED 2 2 2\nwon  lost  tied  points  warrior  author\n  0     0     2       2  Unnamed  Anonymous\n";
     1 + 6 + 1 + 2, 0, 0 => "koth copy growths.hill growing.hill --audit", "" => "COPIED\n";
     1 + 6 + 1 + 5 + 34 + 1 + 2, 0, 0 => "koth reseed growths.hill growing.hill --seed 8", "" => "RESEEDED\n";
     1 + 6 + 1 + 2 + 5, 0, 0 => "koth create growing.hill --like growths.hill", "" => "CREATED\n";
