@@ -66,7 +66,6 @@ abbrev pub subject_name : Subject → List ℕ
 subject_name (Subject.File path) = shown_name path.now
 subject_name (Subject.Warrior path entry) = shown_name path.now ++ (codes ", warrior " ++ decimal entry)
 subject_name (Subject.Port port) = codes "port " ++ decimal port
-subject_name Subject.Connection = codes "a connection"
 subject_name Subject.Output = codes "standard output"
 
 -- the line of a subject with this name, and why it failed

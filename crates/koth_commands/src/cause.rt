@@ -162,8 +162,6 @@ pub enum Subject<'s> {
     Warrior(&'s str, u64),
     /// A port of this machine.
     Port(u16),
-    /// A connection to a peer.
-    Connection,
     /// Standard output.
     Output,
 }
@@ -215,7 +213,6 @@ fn put_subject<A: Allocator>(text: &mut Vec<u8, A>, subject: Subject<'_>) -> Res
         Subject::File(path) => put_name(text, path),
         Subject::Warrior(path, entry) => put_warrior(text, path, entry),
         Subject::Port(port) => put_port(text, port),
-        Subject::Connection => text.extend_from_slice(b"a connection"),
         Subject::Output => text.extend_from_slice(b"standard output"),
     }
 }

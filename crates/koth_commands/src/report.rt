@@ -56,7 +56,7 @@ fn asked_warnings<A: Allocator + Copy>(
     }
 }
 
-/// Whether a source is refused of which this is found: by the assembler, or by its warnings if they are denied.
+/// Whether a source with these faults and these warnings is refused: it is if it has a fault, or a warning and these are denied.
 fn is_refused<A: Allocator>(found: &[Diagnosis<A>], warned: &[Warning<A>], deny: bool) -> bool
     ensures { result ≡ (has_any found.now || (deny && has_any warned.now)) }
 {

@@ -18,7 +18,7 @@ pub fn has_lost_header<R: Files>(rt: &R, path: &str) -> bool {
     }
 }
 
-/// Whether two looks at a source, one after the other, find such a header.
+/// Whether two looks at a source, one after the other, find a header that can't be read beside one that can.
 fn is_lost_twice<S: Source>(source: &mut S) -> bool {
     if source.sectors() < 2 {
         return false;
@@ -29,7 +29,7 @@ fn is_lost_twice<S: Source>(source: &mut S) -> bool {
     }
 }
 
-/// Whether one of the headers of a source is such a one.
+/// Whether one of the headers of a source can't be read though it begins as one, and the other can.
 fn lost_header<S: Source>(source: &mut S) -> Result<bool, Fault>
     requires { 2 ≤ S.facts.size source.old }
     ensures served { IsServed S.facts source.old source.new result }
@@ -54,7 +54,7 @@ pub(crate) fn damaged_in<R: Files, A: Allocator + Copy>(
     }
 }
 
-/// That of the hill that a source holds.
+/// The entry of the first warrior that can't be read of the hill that a source holds, if that can be known.
 pub(crate) fn damaged_seen<S: Source, A: Allocator + Copy>(alloc: A, source: &mut S) -> Option<u64>
     ensures kept { IsKept S.facts source.old source.new }
     ensures damaged { S.facts.lawful source.old → IfSome result (IsDamagedSeen S.facts source.old source.new) }

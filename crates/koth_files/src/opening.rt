@@ -125,7 +125,8 @@ where
     }
 }
 
-/// The same, with the entry of the first warrior that can't be read if it is that and the entry can be known.
+/// What is told of a file that wasn't opened: of a hill with a warrior that can't be read, the entry of the first such warrior too, if that can be
+/// known.
 fn with_warrior<'f, R: Files, A: Allocator + Copy>(
     rt: &'f R,
     alloc: A,

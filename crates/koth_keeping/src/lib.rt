@@ -13,6 +13,11 @@
 //! its warriors earn under that (`IsHolding`). Of files no contract can say what they hold.
 #![tactic(auto)]
 
+/// The greatest number of a setting.
+macro_rules! greatest {
+    ($least:literal, $most:literal) => { $most };
+}
+
 mod answer;
 mod audit;
 mod copy;

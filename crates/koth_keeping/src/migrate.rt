@@ -13,9 +13,10 @@ use koth_words::Migration;
 use sector_disk::Device;
 use std::alloc::Allocator;
 use std::rt::Files;
+use war_types::range_of;
 
 /// Warriors that a hill holds at most, whatever its settings are.
-const GREATEST_CAPACITY: u16 = 20;
+const GREATEST_CAPACITY: u16 = range_of!(capacity, greatest);
 
 /// Moves the hill in a file of the old format to another file, in the new one. Nothing is written to the old file. The
 /// new one is made if it is missing, large enough for any hill. That is done before it is known whether the old one

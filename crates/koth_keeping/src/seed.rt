@@ -10,11 +10,6 @@ use std::io;
 use std::random::RandomSource;
 use war_types::range_of;
 
-/// The greatest number of a setting.
-macro_rules! greatest {
-    ($least:literal, $most:literal) => { $most };
-}
-
 /// How many seeds there are: they are 1 to this number.
 const SEEDS: u64 = range_of!(seed, greatest);
 

@@ -33,11 +33,11 @@ mod typed;
 
 pub use arguments::refuse_arguments;
 pub use koth_commands::Status;
-pub use koth_commands::trouble::{Fault, Trouble};
+pub use koth_commands::trouble::Trouble;
 pub use koth_keeping::drawn_seed;
-pub use koth_protocol::{Counted, ReadFault, WriteFault};
+pub use koth_protocol::Counted;
 pub use koth_service::LogWrite;
-pub use koth_session::{SessionEnd, session, write_reply};
+pub use koth_session::{SessionEnd, session};
 pub use koth_sockets::PolledLog;
 pub use koth_words::View;
 pub use program::run;
