@@ -19,6 +19,8 @@ pub enum Reason {
     NoFolder,
     /// It is a folder, and not a file.
     Folder,
+    /// It is a stream that is closed, or a folder in its place.
+    Closed,
     /// The file system is read-only.
     ReadOnly,
     /// The links of the path go in a circle.
@@ -85,6 +87,7 @@ impl Reason {
             Reason::NotPermitted => "no permission",
             Reason::NoFolder => "a part of the path is no folder",
             Reason::Folder => "it is a folder",
+            Reason::Closed => "it is closed, or a folder",
             Reason::ReadOnly => "the file system is read-only",
             Reason::Circle => "its links go in a circle",
             Reason::LongName => "the name is too long",
@@ -134,6 +137,7 @@ pub fn reason_of(kind: ErrorKind) -> Reason
         ErrorKind::PermissionDenied => Reason::NotPermitted,
         ErrorKind::NotADirectory => Reason::NoFolder,
         ErrorKind::IsADirectory => Reason::Folder,
+        ErrorKind::NotConnected => Reason::Closed,
         ErrorKind::ReadOnlyFilesystem => Reason::ReadOnly,
         ErrorKind::FilesystemLoop => Reason::Circle,
         ErrorKind::InvalidFilename => Reason::LongName,

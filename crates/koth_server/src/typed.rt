@@ -4,12 +4,13 @@ ghost use Rattle.std.specs.Prelude.{◌≡◌};
 
 use koth_commands::write_whole;
 use std::io;
-use std::io::{Read, Write};
+use std::io::{ErrorKind, Read, Write};
 
 /// What is written before a source is read from a terminal.
 const HINT: &[u8] = b"reading the source from standard input; Ctrl-D ends it\n";
 
-/// An input that may be a terminal. If it is one, the first read is reported before it begins, since it waits for somebody who types.
+/// An input that may be a terminal. If it is one, the first read is reported before it begins, since it waits for somebody who types. An input
+/// that is a folder is told as one that isn't connected: the program has a folder in the place of a closed one.
 #[derive(Drop)]
 pub struct Typed<I, E> {
     input: I,
@@ -47,6 +48,17 @@ impl<I: Read, E: Write> Read for Typed<I, E> {
 
     fn read(&mut self, buf: &mut [u8]) -> io::Result<usize> {
         self.tell();
-        self.input.read(buf)
+        match self.input.read(buf) {
+            Ok(count) => Ok(count),
+            Err(error) => Err(told_closed(error)),
+        }
+    }
+}
+
+/// The error of an input: of one that is a folder, that it isn't connected.
+fn told_closed(error: io::Error) -> io::Error {
+    match error.kind() {
+        ErrorKind::IsADirectory => io::Error::from(ErrorKind::NotConnected),
+        _ => error,
     }
 }
