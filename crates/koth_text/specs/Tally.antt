@@ -1,5 +1,6 @@
 -- The rounds of a match from one side.
-use Rattle.{std.specs.Prelude.{ℕ, ◌+◌, ◌*◌}, koth_match.specs.declared.bout.Bout.Bout, koth_text.specs.declared.tally.Tally.Tally}
+use Rattle.std.specs.Prelude.{ℕ, ◌+◌, ◌*◌}
+use Rattle.{koth_match.specs.declared.bout.Bout.Bout, koth_text.specs.declared.tally.Tally.Tally}
 
 -- a result from the side of the older warrior
 abbrev pub of_older : Bout → Tally
