@@ -1,9 +1,9 @@
 -- Sources that are checked, one after another.
-use Rattle.std.proofs.Common.{◌≡◌, ◌∙◌, ◌<◌, ◌+◌, ◌++◌, ℕ, Bool, true, false, true≢false, ◌||◌, List, [], ◌∷◌, Option, None, Some, Result, Ok, Err, MatchResult, inl, inr, ap, append-nil, get_or, length, map, refl, subst, sym, take, ap₂}
-use Rattle.std.proofs.{lemmas.List.{take_more, get_or-map, map-append, length-map}, lemmas.List.Concat.flat_map-append, lemmas.List.Elements.{All-append, All-cons, All-nil}, lemmas.List.Folds.list_any-append, KnownBytes.{Appends-nil, Appends-trans}}
-use Rattle.{std.specs.{Io.KnownBytes.Appends, List.flat_map, Prelude.is_ok}, war_types.specs.declared.settings.RawSettings.RawSettings}
-use Rattle.koth_commands.specs.{Answer.{AnswerParts, Delivers}, Check.{Breaks, Checks, EndsCheckUnder, IsChecked, IsPart, Part, is_over, is_unread, status_over}, Report.{Manner, is_refused, status_by}, Status.worse}
-use Rattle.koth_commands.specs.{Told.{TellsWord, apart_text}, Trouble.{IsReadFault, fault_status, fault_word}, declared.{status.Status.Status, trouble.Trouble.Trouble}}
+use Rattle.std.proofs.Common.{◌≡◌, ◌∙◌, ◌<◌, ◌+◌, ◌++◌, ℕ, Bool, true, false, true≢false, ◌||◌, List, [], ◌∷◌, Option, None, Some, Result, Ok, Err, MatchResult, inl, inr, ap, append-nil, get_or, length, map, refl, subst, sym, take, drop, ap₂}
+use Rattle.std.proofs.{lemmas.List.{take_more, drop_more, get_or-map, map-append, length-map}, lemmas.List.Concat.flat_map-append, lemmas.List.Folds.list_any-append, KnownBytes.{Appends-nil, Appends-trans}}
+use Rattle.{std.specs.{Io.KnownBytes.Appends, List.flat_map, Prelude.is_ok}, war_types.specs.declared.settings.RawSettings.RawSettings, koth_words.specs.Sources.Place}
+use Rattle.koth_commands.specs.{Answer.{AnswerParts, Delivers}, Check.{AreParts, Breaks, Checks, EndsCheckUnder, IsChecked, IsFaultAt, IsPart, Part, is_over, is_unread, status_over}, Report.{Manner, is_refused, status_by}, Status.worse, Streams.Streams}
+use Rattle.koth_commands.specs.{Told.{TellsWord, apart_text}, Trouble.{fault_status, fault_word}, declared.{status.Status.Status, trouble.Trouble.Trouble}}
 use Rattle.koth_commands.proofs.Told.{nothing_more}
 
 -- ---- one source more
@@ -30,35 +30,49 @@ goes_on : (b : Bool) → is_over true (status_by false b) ≡ false
 goes_on true = refl
 goes_on false = refl
 
-pub none_checked : (s : RawSettings) (how : Manner) (o e : Option (List ℕ)) → Checks s how [] Status.Done o o e e
-none_checked s how o e = record { parts = []; named = refl; each = All-nil (IsPart s how); ends = refl; written = Appends-nil o; told = Appends-nil e }
+pub none_checked : (s : RawSettings) (how : Manner) (start : Streams) → Checks s how [] Status.Done start start
+none_checked s how start =
+    record { parts = []; placed = refl; each = refl; ends = refl; written = Appends-nil start.output; told = Appends-nil start.errors }
 
-module _ (s : RawSettings) (how : Manner) (name : List ℕ) (of_input : Bool) (i j : Option (List ℕ)) (end : Status) (p q f g : Option (List ℕ)) where
+-- one part more, of what the others left of the input
+parts_more : (s : RawSettings) (how : Manner) (parts : List Part) (part : Part) (i j k : Option (List ℕ)) → AreParts s how parts i j → IsPart s how part j k
+    → AreParts s how (parts ++ part ∷ []) i k
+parts_more s how [] part i j k same is = (k, subst (λ u. IsPart s how part u k) (sym same) is, refl)
+parts_more s how (first ∷ parts) part i j k (left, one, others) is = (left, one, parts_more s how parts part left j k others is)
+
+module _ (s : RawSettings) (how : Manner) (at : Place) (end : Status) (between after : Streams) where
   -- what is written of a source
   record Adds : Type 0 where
     part : Part
-    named : part.name ≡ name
-    is : IsPart s how part
+    placed : part.at ≡ at
+    is : IsPart s how part between.input after.input
     ends : end ≡ status_by (is_unread part.source) (is_refused s how part.source)
-    written : Appends p q part.text
-    told : Appends f g part.told
+    written : Appends between.output after.output part.text
+    told : Appends between.errors after.errors part.told
 
-  adds : (done : Result AnswerParts Trouble) → MatchResult done (IsChecked s how name of_input i j) IsReadFault → Delivers done end p q f g
-      → is_over (is_ok done) end ≡ false → Adds
+  -- what was done to it
+  abbrev IsDoneTo : Result AnswerParts Trouble → Type 0
+  IsDoneTo done = MatchResult done (IsChecked s how at between.input after.input) (IsFaultAt at between.input after.input)
+
+  abbrev IsSent : Result AnswerParts Trouble → Type 0
+  IsSent done = Delivers done end between.output after.output between.errors after.errors
+
+  adds : (done : Result AnswerParts Trouble) → IsDoneTo done → IsSent done → is_over (is_ok done) end ≡ false → Adds
   adds (Ok answer) checked (inl (ends, written, noted)) going = record {
-    part = record { name = name; source = Some checked.source; text = answer.text; told = noted.part };
-    named = refl;
-    is = (checked.answers.report, (answer.note, checked.answers.note, (noted.rest, noted.split)));
+    part = record { at = at; source = Some checked.source; text = answer.text; told = noted.part };
+    placed = refl;
+    is = (checked.taken, checked.answers.report, (answer.note, checked.answers.note, (noted.rest, noted.split)));
     ends = ends ∙ checked.answers.status;
     written = written;
     told = noted.written;
   }
   adds (Ok answer) checked (inr (ends, part, told)) going = absurd (true≢false (sym (ap (is_over true) ends) ∙ going))
-  adds (Err trouble) fault (kept, tells) going = elim fault [
+  adds (Err trouble) (fault, taken) (kept, tells) going = elim fault [
     | inl stream ↦ record {
-      part = record { name = name; source = None; text = []; told = tells.word.written.part };
-      named = refl;
+      part = record { at = at; source = None; text = []; told = tells.word.written.part };
+      placed = refl;
       is = (
+        taken,
         refl,
         (
           tells.word.apart,
@@ -67,71 +81,79 @@ module _ (s : RawSettings) (how : Manner) (name : List ℕ) (of_input : Bool) (i
         ),
       );
       ends = tells.ends ∙ ap fault_status stream;
-      written = nothing_more p q kept;
+      written = nothing_more between.output after.output kept;
       told = tells.word.written.written;
     }
     | inr memory ↦ absurd (true≢false (sym (ap (is_over false) (tells.ends ∙ ap (λ (t : Trouble). fault_status t.fault) memory)) ∙ going))
   ]
 
-  one_more : (names : List (List ℕ)) (status : Status) (o e : Option (List ℕ)) (done : Result AnswerParts Trouble) → Checks s how names status o p e f
-      → MatchResult done (IsChecked s how name of_input i j) IsReadFault → Delivers done end p q f g → is_over (is_ok done) end ≡ false
-      → Checks s how (names ++ name ∷ []) (worse status end) o q e g
-  one_more names status o e done so_far checked delivered going =
+  one_more : (places : List Place) (status : Status) (before : Streams) (done : Result AnswerParts Trouble) → Checks s how places status before between
+      → IsDoneTo done → IsSent done → is_over (is_ok done) end ≡ false → Checks s how (places ++ at ∷ []) (worse status end) before after
+  one_more places status before done so_far checked delivered going =
       let new = adds done checked delivered going in
       let parts = so_far.parts ++ new.part ∷ [] in
       let unread = list_any-append (λ (part : Part). is_unread part.source) so_far.parts (new.part ∷ []) in
       let refused = list_any-append (λ (part : Part). is_refused s how part.source) so_far.parts (new.part ∷ []) in
       record {
         parts = parts;
-        named = map-append (λ (part : Part). part.name) so_far.parts (new.part ∷ []) ∙ ap (λ l. l ++ new.part.name ∷ []) so_far.named
-            ∙ ap (λ n. names ++ n ∷ []) new.named;
-        each = All-append (IsPart s how) so_far.parts (new.part ∷ []) so_far.each (All-cons (IsPart s how) new.part [] new.is (All-nil (IsPart s how)));
+        placed = map-append (λ (part : Part). part.at) so_far.parts (new.part ∷ []) ∙ ap (λ l. l ++ new.part.at ∷ []) so_far.placed
+            ∙ ap (λ n. places ++ n ∷ []) new.placed;
+        each = parts_more s how so_far.parts new.part before.input between.input after.input so_far.each new.is;
         ends = ap (λ t. worse t end) so_far.ends ∙ ap (worse (status_over s how so_far.parts)) new.ends ∙ worse_by _ _ _ _ ∙ sym (ap₂ status_by unread refused);
-        written = subst (Appends o q)
+        written = subst (Appends before.output after.output)
             (sym (flat_map-append (λ (part : Part). part.text) so_far.parts (new.part ∷ []) ∙ ap (λ t. flat_map (λ (part : Part). part.text) so_far.parts ++ t) (append-nil new.part.text)))
-            (Appends-trans o p q _ _ so_far.written new.written);
-        told = subst (Appends e g)
+            (Appends-trans before.output between.output after.output _ _ so_far.written new.written);
+        told = subst (Appends before.errors after.errors)
             (sym (flat_map-append (λ (part : Part). part.told) so_far.parts (new.part ∷ []) ∙ ap (λ t. flat_map (λ (part : Part). part.told) so_far.parts ++ t) (append-nil new.part.told)))
-            (Appends-trans e f g _ _ so_far.told new.told);
+            (Appends-trans before.errors between.errors after.errors _ _ so_far.told new.told);
       }
 
-  pub one_next : (names names_next : List (List ℕ)) (status next : Status) (o e : Option (List ℕ)) (done : Result AnswerParts Trouble)
-      → Checks s how names status o p e f → MatchResult done (IsChecked s how name of_input i j) IsReadFault → Delivers done end p q f g
-      → is_over (is_ok done) end ≡ false → next ≡ worse status end → names_next ≡ names ++ name ∷ [] → Checks s how names_next next o q e g
-  one_next names names_next status next o e done so_far checked delivered going is named =
-      subst (λ l. Checks s how l next o q e g) (sym named)
-      (subst (λ t. Checks s how (names ++ name ∷ []) t o q e g) (sym is) (one_more names status o e done so_far checked delivered going))
+  pub one_next : (places places_next : List Place) (status next : Status) (before : Streams) (done : Result AnswerParts Trouble)
+      → Checks s how places status before between → IsDoneTo done → IsSent done → is_over (is_ok done) end ≡ false → next ≡ worse status end
+      → places_next ≡ places ++ at ∷ [] → Checks s how places_next next before after
+  one_next places places_next status next before done so_far checked delivered going is placed =
+      subst (λ l. Checks s how l next before after) (sym placed)
+      (subst (λ t. Checks s how (places ++ at ∷ []) t before after) (sym is) (one_more places status before done so_far checked delivered going))
 
-  breaks : (done : Result AnswerParts Trouble) → MatchResult done (IsChecked s how name of_input i j) IsReadFault → Delivers done end p q f g
-      → is_over (is_ok done) end ≡ true → Breaks s how end p q f g
-  breaks (Ok answer) checked (inl (ends, written, noted)) over =
+  breaks : (rest : List Place) (done : Result AnswerParts Trouble) → IsDoneTo done → IsSent done → is_over (is_ok done) end ≡ true
+      → Breaks s how (at ∷ rest) end between after
+  breaks rest (Ok answer) checked (inl (ends, written, noted)) over =
       absurd (true≢false (sym over ∙ ap (is_over true) (ends ∙ checked.answers.status) ∙ goes_on (is_refused s how (Some checked.source))))
-  breaks (Ok answer) checked (inr (ends, part, told)) over = inl (ends, (name, checked.source, answer.text, checked.answers.report, part), told)
-  breaks (Err trouble) fault (kept, tells) over = elim fault [
+  breaks rest (Ok answer) checked (inr (ends, part, told)) over = inl (ends, (checked.source, answer.text, checked.taken, checked.answers.report, part), told)
+  breaks rest (Err trouble) (fault, taken) (kept, tells) over = elim fault [
     | inl stream ↦ absurd (true≢false (sym over ∙ ap (is_over false) (tells.ends ∙ ap fault_status stream)))
     | inr memory ↦ inr (
       tells.ends ∙ ap (λ (t : Trouble). fault_status t.fault) memory,
+      taken,
       kept,
-      subst (λ (t : Trouble). TellsWord (fault_word t.fault) f g) memory tells.word,
+      subst (λ (t : Trouble). TellsWord (fault_word t.fault) between.errors after.errors) memory tells.word,
     )
   ]
 
-  pub stopped : (names : List (List ℕ)) (count : ℕ) (status : Status) (o e : Option (List ℕ)) (done : Result AnswerParts Trouble)
-      → Checks s how (take count names) status o p e f → MatchResult done (IsChecked s how name of_input i j) IsReadFault
-      → Delivers done end p q f g → is_over (is_ok done) end ≡ true → EndsCheckUnder s how names end o q e g
-  stopped names count status o e done so_far checked delivered over = inr (record {
+  pub stopped : (places rest : List Place) (count : ℕ) (status : Status) (before : Streams) (done : Result AnswerParts Trouble)
+      → Checks s how (take count places) status before between → IsDoneTo done → IsSent done → is_over (is_ok done) end ≡ true
+      → drop count places ≡ at ∷ rest → EndsCheckUnder s how places end before after
+  stopped places rest count status before done so_far checked delivered over next = inr (record {
     count = count;
     begun = status;
-    written = p;
-    told = f;
+    between = between;
     checked = so_far;
-    breaks = breaks done checked delivered over;
+    breaks = subst (λ l. Breaks s how l end between after) (sym next) (breaks rest done checked delivered over);
   })
 
--- the next name, of a list that is read from a slice
-pub next_name : {A : Type 0} (f : A → List ℕ) (xs ys : List A) (i : ℕ) (d : A) → ys ≡ xs → i < length ys
-    → take (i + 1) (map f xs) ≡ take i (map f xs) ++ f (get_or ys i d) ∷ []
-next_name f xs ys i d same within =
-    let inside : i < length xs = subst (λ l. i < length l) same within in
-    take_more (map f xs) i [] (subst (λ n. i < n) (sym (length-map xs f)) inside)
-    ∙ ap (λ n. take i (map f xs) ++ n ∷ []) (get_or-map f xs i d [] inside ∙ ap (λ l. f (get_or l i d)) (sym same))
+-- the next place, of a list that is read from a slice
+module _ {A B : Type 0} (f : A → B) (xs ys : List A) (i : ℕ) (d : A) (same : ys ≡ xs) (within : i < length ys) where
+  inside : i < length xs
+  inside = subst (λ l. i < length l) same within
+
+  mapped : i < length (map f xs)
+  mapped = subst (λ n. i < n) (sym (length-map xs f)) inside
+
+  here : get_or (map f xs) i (f d) ≡ f (get_or ys i d)
+  here = get_or-map f xs i d (f d) inside ∙ ap (λ l. f (get_or l i d)) (sym same)
+
+  pub next_taken : take (i + 1) (map f xs) ≡ take i (map f xs) ++ f (get_or ys i d) ∷ []
+  next_taken = take_more (map f xs) i (f d) mapped ∙ ap (λ n. take i (map f xs) ++ n ∷ []) here
+
+  pub next_left : drop i (map f xs) ≡ f (get_or ys i d) ∷ drop (i + 1) (map f xs)
+  next_left = drop_more (map f xs) i (f d) mapped ∙ ap (λ n. n ∷ drop (i + 1) (map f xs)) here

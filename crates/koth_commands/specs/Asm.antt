@@ -1,8 +1,8 @@
 -- What the command `asm` writes, and how it ends.
-use Rattle.std.specs.{Prelude.{◌≡◌, ℕ, Bool, Option, IfSome, List, [], Result, Ok, Err}, Io.KnownBytes.Consumes}
+use Rattle.std.specs.{Prelude.{◌≡◌, ℕ, Bool, Option, IfSome, List, [], Result, Ok, Err}}
 use Rattle.war_types.specs.{Warrior.WarriorParts, declared.fault.AsmFault.AsmFault, declared.settings.RawSettings.RawSettings, declared.settings.SettingsFault.SettingsFault}
 use Rattle.{redcode_asm.specs.{Assembly.assembly, LoadText.load_text}, koth_text.specs.Refusal.refusal_line}
-use Rattle.koth_commands.specs.{Answer.{AnswerParts, EndsAs, IsGiven}, Streams.{From, Streams, Takes}, Trouble.IsReadFault}
+use Rattle.koth_commands.specs.{Answer.{AnswerParts, EndsAs, IsGiven}, Streams.{From, Streams, Takes, TakesSome}, Trouble.IsReadFault}
 use Rattle.koth_commands.specs.declared.{status.Status.Status, trouble.Trouble.Trouble}
 
 -- what is written: a warrior's load text, or the refusal
@@ -35,7 +35,7 @@ pub record Answers (s : RawSettings) (answer : AnswerParts) (before after : Opti
 -- a source is answered, or could not be read, or memory ran out
 abbrev pub IsDone : RawSettings → Result AnswerParts Trouble → Option (List ℕ) → Option (List ℕ) → Type 0
 IsDone s (Ok answer) before after = Answers s answer before after
-IsDone s (Err trouble) before after = IsReadFault trouble × ((taken : List ℕ) × Consumes before after taken)
+IsDone s (Err trouble) before after = IsReadFault trouble × TakesSome before after
 
 -- what is done to a source of the input or else of a file, under the settings that are given
 abbrev pub IsDoneFrom : Bool → Result RawSettings SettingsFault → Option (List ℕ) → Option (List ℕ) → Result AnswerParts Trouble → Type 0

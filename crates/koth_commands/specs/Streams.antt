@@ -1,6 +1,6 @@
 -- What a command takes from its input, and its three streams.
 use Rattle.std.specs.{Prelude.{ℕ, ◌<◌, ◌≤◌, Bool, true, false, Option, None, List, length}, Io.KnownBytes.{Consumes, IsAtEnd, Keeps}}
-use Rattle.koth_words.specs.declared.requests.Source.{Source}
+use Rattle.koth_words.specs.{Sources.{Place}, declared.requests.Source.{Source}}
 
 -- bytes of a source that are read: one more than a source may have
 abbrev pub read_limit : ℕ
@@ -11,6 +11,20 @@ pub record Takes (old new : Option (List ℕ)) (source : List ℕ) : Type 0 wher
   pub bytes : Consumes old new source
   pub most : length source ≤ read_limit
   pub whole : length source < read_limit → IsAtEnd new
+
+-- some bytes were taken, or none
+abbrev pub TakesSome : Option (List ℕ) → Option (List ℕ) → Type 0
+TakesSome old new = (taken : List ℕ) × Consumes old new taken
+
+-- whether a place is the input
+abbrev pub at_input : Place → Bool
+at_input (Place.Input name) = true
+at_input (Place.File file) = false
+
+-- what messages call a source at this place
+abbrev pub name_at : Place → List ℕ
+name_at (Place.Input name) = name
+name_at (Place.File file) = file
 
 -- whether a source is standard input
 abbrev pub is_input : Source → Bool

@@ -2,10 +2,10 @@
 
 ghost use Rattle.std.specs.Prelude.{◌≡◌, MatchResult, Ok};
 ghost use Rattle.{war_types.specs.Settings.settings_of, redcode_asm.specs.Assembly.assembly};
-ghost use Rattle.koth_commands.specs.{Asm.{EndsAsmFrom, IsDoneFrom, IsAssembled}, Streams.{is_input, streams}, Trouble.no_memory};
+ghost use Rattle.koth_commands.specs.{Asm.{EndsAsmFrom, IsDone, IsDoneFrom, IsAssembled}, Streams.{is_input, streams}, Trouble.no_memory};
 
 use crate::answer::{Answer, RefusedSource, deliver, refusal_told};
-use crate::source::{source_name, source_text};
+use crate::source::{open_source, text_from};
 use crate::status::Status;
 use crate::trouble::Trouble;
 use koth_words::Source;
@@ -48,11 +48,29 @@ fn perform_asm<'w, R: Files, A: Allocator + Copy, I: Read>(
         Ok(settings) => settings,
         Err(fault) => return Err(Trouble::settings(given, fault)),
     };
-    let text = match source_text(rt, alloc, source, input) {
+    match source {
+        Source::Input(name) => done_from(alloc, &settings, name, input),
+        Source::File(path) => match open_source(rt, path) {
+            Ok(mut file) => done_from(alloc, &settings, path, &mut file),
+            Err(trouble) => Err(trouble),
+        },
+    }
+}
+
+/// What is done to the text that a reader has. `name` is what messages call it.
+fn done_from<'w, A: Allocator + Copy, I: Read>(
+    alloc: A,
+    settings: &Settings,
+    name: &'w str,
+    reader: &mut I,
+) -> Result<Answer<A>, Trouble<'w>>
+    ensures { IsDone settings.now result (I.remaining reader.old) (I.remaining reader.new) }
+{
+    let text = match text_from(alloc, name, reader) {
         Ok(text) => text,
         Err(trouble) => return Err(trouble),
     };
-    assembled(alloc, &settings, source_name(source), text.as_slice())
+    assembled(alloc, settings, name, text.as_slice())
 }
 
 /// The load text of a source, or its refusal. `path` is what messages call the source.

@@ -1,12 +1,13 @@
 //! The command `check`: what is wrong with sources, for people or for editors.
 
-ghost use Rattle.std.specs.Prelude.{◌≡◌, None, MatchResult};
-ghost use Rattle.{war_types.specs.Settings.settings_of, koth_commands.specs.{Check.{is_over, names_of, EndsCheck, EndsCheckUnder, IsChecked}, Report.manner_of, Streams.{is_input, source_name, streams}, Trouble.IsReadFault}};
+ghost use Rattle.std.specs.Prelude.{◌≡◌, MatchResult};
+ghost use Rattle.{war_types.specs.Settings.settings_of, koth_words.specs.Sources.{Place, place}};
+ghost use Rattle.koth_commands.specs.{Check.{is_over, places_of, EndsCheck, EndsCheckUnder, IsChecked, IsFaultAt}, Report.manner_of, Streams.streams};
 
 use crate::answer::{Answer, deliver};
 use crate::report::report;
 use crate::settings::refuse_settings;
-use crate::source::{source_name, source_text};
+use crate::source::{open_source, text_from};
 use crate::status::Status;
 use crate::trouble::Trouble;
 use koth_words::{Checked, Source};
@@ -28,9 +29,9 @@ pub fn check<R: Files, A: Allocator + Copy, I: Read, O: Write, E: Write>(
     output: &mut O,
     errors: &mut E,
 ) -> Status
-    ensures { EndsCheck (manner_of checked.now) (names_of checked.now) (settings_of given) result
-        (streams None (O.contents output.old) (E.contents errors.old))
-        (streams None (O.contents output.new) (E.contents errors.new)) }
+    ensures { EndsCheck (manner_of checked.now) (places_of checked.now) (settings_of given) result
+        (streams (I.remaining input.old) (O.contents output.old) (E.contents errors.old))
+        (streams (I.remaining input.new) (O.contents output.new) (E.contents errors.new)) }
 {
     match Settings::new(given) {
         Ok(settings) => check_files(rt, alloc, &settings, checked, input, output, errors),
@@ -47,8 +48,9 @@ fn check_files<R: Files, A: Allocator + Copy, I: Read, O: Write, E: Write>(
     output: &mut O,
     errors: &mut E,
 ) -> Status
-    ensures { EndsCheckUnder settings.now (manner_of checked.now) (names_of checked.now) result
-        (O.contents output.old) (O.contents output.new) (E.contents errors.old) (E.contents errors.new) }
+    ensures { EndsCheckUnder settings.now (manner_of checked.now) (places_of checked.now) result
+        (streams (I.remaining input.old) (O.contents output.old) (E.contents errors.old))
+        (streams (I.remaining input.new) (O.contents output.new) (E.contents errors.new)) }
 {
     let mut status = Status::Done;
     for source in checked.files.as_slice() {
@@ -83,18 +85,34 @@ fn check_source<'w, R: Files, A: Allocator + Copy, I: Read>(
     source: Source<'w>,
     input: &mut I,
 ) -> Result<Answer<A>, Trouble<'w>>
-    ensures { MatchResult result (IsChecked settings.now (manner_of checked.now) (source_name source.entry) (is_input source.entry)
-        (I.remaining input.old) (I.remaining input.new)) IsReadFault }
+    ensures { MatchResult result
+        (IsChecked settings.now (manner_of checked.now) (place source.entry) (I.remaining input.old) (I.remaining input.new))
+        (IsFaultAt (place source.entry) (I.remaining input.old) (I.remaining input.new)) }
 {
-    let text = match source_text(rt, alloc, source, input) {
+    match source {
+        Source::Input(name) => check_from(alloc, settings, checked, name, input),
+        Source::File(path) => match open_source(rt, path) {
+            Ok(mut file) => check_from(alloc, settings, checked, path, &mut file),
+            Err(trouble) => Err(trouble),
+        },
+    }
+}
+
+/// Every refusal of the text that a reader has, as if that were the input. `name` is what messages call it.
+fn check_from<'w, A: Allocator + Copy, I: Read>(
+    alloc: A,
+    settings: &Settings,
+    checked: &Checked<'_>,
+    name: &'w str,
+    reader: &mut I,
+) -> Result<Answer<A>, Trouble<'w>>
+    ensures { MatchResult result
+        (IsChecked settings.now (manner_of checked.now) (Place.Input name.now) (I.remaining reader.old) (I.remaining reader.new))
+        (IsFaultAt (Place.Input name.now) (I.remaining reader.old) (I.remaining reader.new)) }
+{
+    let text = match text_from(alloc, name, reader) {
         Ok(text) => text,
         Err(trouble) => return Err(trouble),
     };
-    report(
-        alloc,
-        settings,
-        checked,
-        source_name(source),
-        text.as_slice(),
-    )
+    report(alloc, settings, checked, name, text.as_slice())
 }

@@ -1,7 +1,7 @@
 //! A source that is read from standard input or from a file.
 
-ghost use Rattle.std.specs.{Prelude.{◌≡◌, IfOk, IfErr, List, ℕ}, Io.KnownBytes.Consumes};
-ghost use Rattle.koth_commands.specs.{Trouble.IsReadFault, Streams.{From, Takes, is_input, source_name}};
+ghost use Rattle.std.specs.Prelude.{◌≡◌, IfOk, IfErr};
+ghost use Rattle.koth_commands.specs.{Trouble.IsReadFault, Streams.{From, Takes, TakesSome, is_input, source_name}};
 
 use crate::cause::reason_of;
 use crate::stream::fill;
@@ -35,26 +35,36 @@ pub fn source_text<'w, R: Files, A: Allocator + Copy, I: Read>(
 ) -> Result<Vec<u8, A>, Trouble<'w>>
     ensures taken { IfOk result (λ text. From (is_input source.entry) (λ old new. Takes old new text.items)
         (I.remaining input.old) (I.remaining input.new)) }
-    ensures lost { IfErr result (λ trouble. IsReadFault trouble × From (is_input source.entry) (λ old new. (taken : List ℕ) × Consumes old new taken)
+    ensures lost { IfErr result (λ trouble. IsReadFault trouble × From (is_input source.entry) TakesSome
         (I.remaining input.old) (I.remaining input.new)) }
 {
     match source {
         Source::Input(name) => text_from(alloc, name, input),
-        Source::File(path) => match fs::open(rt, path) {
+        Source::File(path) => match open_source(rt, path) {
             Ok(mut file) => text_from(alloc, path, &mut file),
-            Err(error) => Err(Trouble::file(path, reason_of(error.kind()))),
+            Err(trouble) => Err(trouble),
         },
     }
 }
 
+/// The file of a source, to read its text from.
+pub fn open_source<'w, R: Files>(rt: &R, path: &'w str) -> Result<R::File, Trouble<'w>>
+    ensures { IfErr result IsReadFault }
+{
+    match fs::open(rt, path) {
+        Ok(file) => Ok(file),
+        Err(error) => Err(Trouble::file(path, reason_of(error.kind()))),
+    }
+}
+
 /// What a reader has, up to one byte more than a source may have. `name` is what messages call it.
-fn text_from<'w, A: Allocator + Copy, I: Read>(
+pub fn text_from<'w, A: Allocator + Copy, I: Read>(
     alloc: A,
     name: &'w str,
     input: &mut I,
 ) -> Result<Vec<u8, A>, Trouble<'w>>
     ensures taken { IfOk result (λ text. Takes (I.remaining input.old) (I.remaining input.new) text.items) }
-    ensures lost { IfErr result (λ trouble. IsReadFault trouble × ((taken : List ℕ) × Consumes (I.remaining input.old) (I.remaining input.new) taken)) }
+    ensures lost { IfErr result (λ trouble. IsReadFault trouble × TakesSome (I.remaining input.old) (I.remaining input.new)) }
 {
     let Ok(mut buffer) = Vec::from_elem(alloc, 0, READ_LIMIT) else {
         return Err(Trouble::memory());

@@ -1,18 +1,18 @@
 -- What a run promises for its arguments, from how its request ended, or from why there is none.
-use Rattle.std.proofs.Common.{◌≡◌, ◌≢◌, ◌⊎◌, ℕ, Bool, Bor, true, false, true≢false, if◌then◌else◌, is_some, ap, ap₂, List, [], ◌∷◌, IfOk, map, Option, None, Some, Result, Ok, Err, inl, inr, ◌∙◌, refl, sym, subst, codes, option_map}
+use Rattle.std.proofs.Common.{◌≡◌, ◌≢◌, ◌⊎◌, ℕ, Bool, Bor, true, false, true≢false, if◌then◌else◌, is_some, ap, List, [], IfOk, Option, None, Some, Result, Ok, Err, inl, inr, ◌∙◌, refl, sym, subst, codes, option_map}
 use Rattle.{std.specs.{Prelude.{⊤, unwrap_or}, Str.bytes_eq}, std.proofs.{KnownBytes.{Consumes-nil, Keeps-refl}}, std.specs.Io.KnownBytes.Keeps, clap.specs.Walk.{Row, Text}}
 use Rattle.{clap.specs.Words.first_of, war_types.specs.{declared.settings.RawSettings.RawSettings, declared.settings.SettingsFault.SettingsFault, Settings.settings_of}}
-use Rattle.koth_words.specs.{Settings.{IsGiven, base_in, chosen_in, over, settings_in}, Sources.{Place, input_name, is_input as is_dash, place, place_named}, Words.{AsksBy, IsHelp, IsRefusal, given_in, has_flag, text_or_none, view_in}}
+use Rattle.koth_words.specs.{Settings.{IsGiven, base_in, chosen_in, over, settings_in}, Sources.{Place, input_name, is_input as is_dash, place, place_named, places_named}, Words.{AsksBy, IsHelp, IsRefusal, given_in, has_flag, text_or_none, view_in}}
 use Rattle.{koth_words.specs.{declared.settings.{Chosen.Chosen, Given.Given}, declared.requests.NoRequest.NoRequest}}
 use Rattle.koth_words.specs.{declared.requests.Request.Request, declared.requests.Request.TheVariants.{Asm, Check, Fight, Create, Submit, Show, Serve, Audit, Migrate, Page, Replay, Try, Copy, Reseed}}
 use Rattle.{koth_words.specs.{declared.requests.Source.Source, declared.requests.View.View}, koth_commands.specs.{Answer.{AnswerParts, EndsGiven}, Asm.{EndsAsmFrom, IsDoneFrom, status_of}}}
-use Rattle.koth_commands.specs.{Check.{EndsCheck, EndsCheckUnder, names_of}, Report.{Manner, manner_of, status_by}}
+use Rattle.koth_commands.specs.{Check.{EndsCheck, EndsCheckUnder, input_next}, Report.{Manner, manner_of, status_by}}
 use Rattle.{war_types.specs.{Warrior.WarriorParts, declared.fault.AsmFault.AsmFault}, redcode_asm.specs.Assembly.assembly, koth_commands.proofs.Checks.none_checked, koth_server.proofs.Statuses.{IsNone, delivered}}
-use Rattle.koth_commands.specs.{Streams.{Streams, is_input, source_name, streams, unread}, Trouble.{Tells, no_memory}, declared.status.Status.{Status, TheVariants.{NoMemory, WordFault}}}
+use Rattle.koth_commands.specs.{Streams.{From, Streams, TakesSome, at_input, is_input, streams, unread}, Trouble.{Tells, no_memory}, declared.status.Status.{Status, TheVariants.{NoMemory, WordFault}}}
 use Rattle.koth_commands.proofs.Told.{kept_part, writes_nothing}
 use Rattle.koth_keeping.specs.{Answers.{Answers, AnswersGiven, Ends, Outcome, SaysLine}, Created.{MayCreate, SaysCreated}, Audit.SaysAudit, Copies.{MayReseed, SaysCopied}, Migration.migrated_line, Seed.seed_hint}
 use Rattle.koth_hills.specs.{Hills.{AfterNote, EndsSource, SaysReply, SaysShown, TellsNote, sight_of}, Page.SaysPage, Trials.SaysTrial}
-use Rattle.koth_server.specs.{Serving.{EndsServe, EndsService, listening_line}, Run.{CommandEnds, EndsRequest, EndsRequestUnder, EndsHelp, EndsWithout, AreWatched, FightEnds, ReplayEnds, manner_in, name_at, names_in, sight_in, viewed}, Settled.{AreSettled, EndsBy, EndsSettled, EndsUnderGiven, TellsNoHill, names_hill}}
+use Rattle.koth_server.specs.{Serving.{EndsServe, EndsService, listening_line}, Run.{CommandEnds, EndsRequest, EndsRequestUnder, EndsHelp, EndsWithout, AreWatched, FightEnds, ReplayEnds, manner_in, sight_in, viewed}, Settled.{AreSettled, EndsBy, EndsSettled, EndsUnderGiven, TellsNoHill, names_hill}}
 use Rattle.koth_words.specs.declared.requests.{Fighters.Fighters, Round.Round}
 use Rattle.koth_contests.specs.{Fight.{EndsFight, EndsFightUnder}, Replay.{EndsReplay, EndsReplayUnder, with_round}}
 
@@ -36,7 +36,7 @@ EndsNamed name view given status before after =
     let u = unread before in
     let v = unread after in
     Either (bytes_eq name (codes "asm")) (EndsBy given (λ s. EndsAsmFrom (reads_in given) (settings_of s) status before after) status before after)
-    (Either (bytes_eq name (codes "check")) (EndsBy given (λ s. EndsCheck (manner_in given) (names_in given) (settings_of s) status u v) status before after)
+    (Either (bytes_eq name (codes "check")) (EndsBy given (λ s. EndsCheck (manner_in given) (places_named (codes "SOURCE") given) (settings_of s) status before after) status before after)
     (Either (bytes_eq name (codes "fight")) (EndsBy given (λ s. FightEnds given shown (settings_of s) status u v) status before after)
     (Either (bytes_eq name (codes "create")) (EndsBy given (λ s. Ends (MayCreate (has_flag (codes "draw-seed") given) s) status u v) status before after)
     (Either (bytes_eq name (codes "submit")) (AfterNote (EndsSource (reads_in given) (SaysReply shown) status) before after)
@@ -52,11 +52,6 @@ EndsNamed name view given status before after =
 
 -- ---- a request: the command that the arguments name ended so, under the settings that they give
 
--- whether a place is the input
-abbrev at_input : Place → Bool
-at_input (Place.Input name) = true
-at_input (Place.File file) = false
-
 of_place : (source : Source) → at_input (place source) ≡ is_input source
 of_place (Source.Input name) = refl
 of_place (Source.File file) = refl
@@ -68,14 +63,6 @@ at_word false called word = refl
 -- a source is the input if the words say so
 same_source : (source : Source) (rows : List Row) → place source ≡ place_named (codes "SOURCE") rows → is_input source ≡ reads_in rows
 same_source source rows is = sym (of_place source) ∙ ap at_input is ∙ at_word (reads_in rows) (input_name rows) (text_or_none (first_of (codes "SOURCE") rows))
-
-called : (source : Source) → source_name source ≡ name_at (place source)
-called (Source.Input name) = refl
-called (Source.File file) = refl
-
-all_called : (sources : List Source) → map source_name sources ≡ map name_at (map place sources)
-all_called [] = refl
-all_called (source ∷ sources) = ap₂ (λ n ns. n ∷ ns) (called source) (all_called sources)
 
 -- how a command ends under settings that are given, one way or another
 under_map : (like : Bool) (base : RawSettings) (chosen : Chosen) (ends other : RawSettings → Type 0) (status : Status) (before after : Streams)
@@ -124,12 +111,12 @@ module _ (view : View) (e : Text × List Row) (status : Status) (before after : 
       (λ s ended. subst (λ b. EndsAsmFrom b (settings_of s) status before after) (same_source source e.1 asks.2) ended) ends.0)
   named (Check given checked) asks ends =
       let manner : manner_of checked ≡ manner_in e.1 = λ i. record { form = asks.2.form i; warnings = asks.2.warnings i; deny = asks.2.deny i } in
-      let names : names_of checked ≡ names_in e.1 = all_called checked.files.items ∙ ap (map name_at) asks.2.files in
+      let places = places_named (codes "SOURCE") e.1 in
       subst Carries (sym asks.0)
       (by_words e.1 given (Under (Check given checked))
-      (λ s. EndsCheck (manner_in e.1) (names_in e.1) (settings_of s) status (unread before) (unread after)) status before after asks.1
-      (λ s ended. subst (λ m. EndsCheck m (names_in e.1) (settings_of s) status (unread before) (unread after)) manner
-      (subst (λ l. EndsCheck (manner_of checked) l (settings_of s) status (unread before) (unread after)) names ended)) ends.0)
+      (λ s. EndsCheck (manner_in e.1) places (settings_of s) status before after) status before after asks.1
+      (λ s ended. subst (λ m. EndsCheck m places (settings_of s) status before after) manner
+      (subst (λ l. EndsCheck (manner_of checked) l (settings_of s) status before after) asks.2.files ended)) ends.0)
   named (Fight given files) asks ends = subst Carries (sym asks.0)
       (by_words e.1 given (Under (Fight given files)) (λ s. FightEnds e.1 (viewed (view_in e.1) view) (settings_of s) status (unread before) (unread after)) status before after asks.1
       (λ s ended. inl (files, asks.2, subst (λ v. EndsFight files (viewed v view) (settings_of s) status (unread before) (unread after)) asks.2.view ended)) ends.0)
@@ -194,18 +181,17 @@ by_none true refused is = absurd (cc)
 by_none false true is = absurd (cc)
 by_none false false is = absurd (cc)
 
-check_word : (s : RawSettings) (how : Manner) (names : List (List ℕ)) (status : Status) (o p e f : Option (List ℕ)) → EndsCheckUnder s how names status o p e f
+check_word : (s : RawSettings) (how : Manner) (places : List Place) (status : Status) (before after : Streams) → EndsCheckUnder s how places status before after
     → status ≢ WordFault
-check_word s how names status o p e f (inl checked) is = by_none _ _ (sym checked.ends ∙ is)
-check_word s how names status o p e f (inr stopped) is = elim stopped.breaks [ inl failed ↦ absurd (cc) | inr memory ↦ absurd (cc) ]
+check_word s how places status before after (inl checked) is = by_none _ _ (sym checked.ends ∙ is)
+check_word s how places status before after (inr stopped) is = elim stopped.breaks [ inl failed ↦ absurd (cc) | inr memory ↦ absurd (cc) ]
 
 -- nor do `check`, `fight` and `replay`
-pub check_no_word : (how : Manner) (names : List (List ℕ)) (r : Result RawSettings SettingsFault) (status : Status) (before after : Streams)
-    → EndsCheck how names r status before after → status ≢ WordFault
-check_no_word how names r status before after ends is =
-    given_word (λ s end u v. EndsCheckUnder s how names end u.output v.output u.errors v.errors) r before after
-    (λ s ended. check_word s how names WordFault _ _ _ _ ended refl)
-    (subst (λ t. EndsCheck how names r t before after) is ends)
+pub check_no_word : (how : Manner) (places : List Place) (r : Result RawSettings SettingsFault) (status : Status) (before after : Streams)
+    → EndsCheck how places r status before after → status ≢ WordFault
+check_no_word how places r status before after ends is =
+    given_word (λ s. EndsCheckUnder s how places) r before after (λ s ended. check_word s how places WordFault before after ended refl)
+    (subst (λ t. EndsCheck how places r t before after) is ends)
 
 fight_word : (s : RawSettings) (fighters : Fighters) (view : View) (o p e f : Option (List ℕ)) → EndsFightUnder s fighters view WordFault o p e f → ⊥
 fight_word s fighters view o p e f (inl alone) = alone.2
@@ -272,15 +258,18 @@ module _ (i o p e f : Option (List ℕ)) (kept : Keeps o p) (told : Tells no_mem
   asm_no_memory false (Ok s) = (Err no_memory, ((inr refl, ([], tt)), Keeps-refl i), (kept, told))
   asm_no_memory of_input (Err fault) = (Err no_memory, (Keeps-refl i, inr refl), (kept, told))
 
-  check_no_memory : (how : Manner) (names : List (List ℕ)) (r : Result RawSettings SettingsFault) → EndsCheck how names r NoMemory (streams None o e) (streams None p f)
-  check_no_memory how names r = given_no_memory None o p e f kept told (λ s end u v. EndsCheckUnder s how names end u.output v.output u.errors v.errors) r
+  none_taken : (of_input : Bool) → From of_input TakesSome i i
+  none_taken true = ([], Consumes-nil i)
+  none_taken false = (([], tt), Keeps-refl i)
+
+  check_no_memory : (how : Manner) (places : List Place) (r : Result RawSettings SettingsFault) → EndsCheck how places r NoMemory (streams i o e) (streams i p f)
+  check_no_memory how places r = given_no_memory i o p e f kept told (λ s. EndsCheckUnder s how places) r
       (λ s. inr (record {
         count = 0;
         begun = Status.Done;
-        written = o;
-        told = e;
-        checked = none_checked s how o e;
-        breaks = inr (refl, kept, told.word);
+        between = streams i o e;
+        checked = none_checked s how (streams i o e);
+        breaks = inr (refl, none_taken (input_next places), kept, told.word);
       }))
 
   serve_no_memory : (r : Result RawSettings SettingsFault) → EndsServe r NoMemory (streams None o e) (streams None p f)
@@ -301,13 +290,13 @@ module _ (i o p e f : Option (List ℕ)) (kept : Keeps o p) (told : Tells no_mem
       let drawn = has_flag (codes "draw-seed") given in
       let of_input = reads_in given in
       let how = manner_in given in
-      let names = names_in given in
+      let places = places_named (codes "SOURCE") given in
       let u = streams None o e in
       let v = streams None p f in
       let none : TellsNote e e = inl (Keeps-refl e) in
       let may = may_no_memory None o p e f kept told in
       either (bytes_eq name (codes "asm")) _ _ (by_no_memory given (λ s. EndsAsmFrom of_input (settings_of s) NoMemory (streams i o e) (streams i p f)) (λ s. asm_no_memory of_input (settings_of s)))
-      (either (bytes_eq name (codes "check")) _ _ (by_no_memory given (λ s. EndsCheck how names (settings_of s) NoMemory u v) (λ s. check_no_memory how names (settings_of s)))
+      (either (bytes_eq name (codes "check")) _ _ (by_no_memory given (λ s. EndsCheck how places (settings_of s) NoMemory (streams i o e) (streams i p f)) (λ s. check_no_memory how places (settings_of s)))
       (either (bytes_eq name (codes "fight")) _ _ (by_no_memory given (λ s. FightEnds given shown (settings_of s) NoMemory u v) (λ s. inr (kept, told)))
       (either (bytes_eq name (codes "create")) _ _ (by_no_memory given (λ s. Ends (MayCreate drawn s) NoMemory u v) (λ s. may (MayCreate drawn s) (create_no_memory drawn s)))
       (either (bytes_eq name (codes "submit")) _ _ (e, none, source_no_memory i o p e f kept told of_input (SaysReply shown))

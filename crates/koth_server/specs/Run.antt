@@ -1,10 +1,10 @@
 -- How a run ends.
-use Rattle.std.specs.{Prelude.{◌≡◌, ◌≢◌, ◌⊎◌, ◌||◌, ⊤, ℕ, List, Option, Result, codes, is_some, map, option_map, unwrap_or}, Io.KnownBytes.Keeps}
-use Rattle.{clap.specs.Words.{Row, first_of}, war_types.specs.{Settings.settings_of, declared.settings.{RawSettings.RawSettings, SettingsFault.SettingsFault}}, koth_words.specs.Sources.{Place, place, place_named, places_named}}
+use Rattle.std.specs.{Prelude.{◌≡◌, ◌≢◌, ◌⊎◌, ◌||◌, ⊤, ℕ, List, Option, Result, codes, is_some, option_map, unwrap_or}, Io.KnownBytes.Keeps}
+use Rattle.{clap.specs.Words.{Row, first_of}, war_types.specs.{Settings.settings_of, declared.settings.{RawSettings.RawSettings, SettingsFault.SettingsFault}}, koth_words.specs.Sources.{place, place_named, places_named}}
 use Rattle.{koth_words.specs.declared.requests.{Fighters.Fighters, Watched.Watched}, koth_contests.specs.{Fight.EndsFight, Replay.EndsReplay}}
 use Rattle.koth_words.specs.{Words.{draw_seed_named, form_in, given_by, given_of, has_flag, has_option, matches_in, reads_input, round_in, settings_named, view_named, AreFighters, AreTaken, AreWrong, AskForHelp, AsksFor}, declared.requests.NoRequest.NoRequest}
 use Rattle.koth_words.specs.{declared.requests.Request.Request, declared.requests.Request.TheVariants.{Asm, Check, Fight, Create, Submit, Show, Serve, Audit, Migrate, Page, Replay, Try, Copy, Reseed}}
-use Rattle.{koth_words.specs.declared.requests.View.View, koth_commands.specs.{Asm.EndsAsmFrom, Check.{EndsCheck, names_of}, Report.{Manner, manner_of}}}
+use Rattle.{koth_words.specs.declared.requests.View.View, koth_commands.specs.{Asm.EndsAsmFrom, Check.{EndsCheck, places_of}, Report.{Manner, manner_of}}}
 use Rattle.koth_commands.specs.{Status.status_code, Streams.{Streams, is_input, unread}, Trouble.{Tells, no_memory}, declared.status.Status.Status}
 use Rattle.koth_keeping.specs.{Answers.{Answers, Ends, SaysLine}, Created.MayCreate, Audit.SaysAudit, Copies.{MayReseed, SaysCopied}, Migration.migrated_line}
 use Rattle.koth_hills.specs.{Hills.{AfterNote, EndsSource, SaysReply, SaysShown, Sight, sight_of}, Trials.SaysTrial, Page.SaysPage}
@@ -26,7 +26,7 @@ sight_in rows = record { matches = matches_in rows; settings = has_flag (codes "
 abbrev pub CommandEnds : RawSettings → View → Request → Status → Streams → Streams → Type 0
 CommandEnds settings view (Asm given source) status before after = EndsAsmFrom (is_input source) (settings_of settings) status before after
 CommandEnds settings view (Check given checked) status before after =
-    EndsCheck (manner_of checked) (names_of checked) (settings_of settings) status (unread before) (unread after)
+    EndsCheck (manner_of checked) (places_of checked) (settings_of settings) status before after
 CommandEnds settings view (Fight given files) status before after =
     EndsFight files (viewed files.view view) (settings_of settings) status (unread before) (unread after)
 CommandEnds settings view (Create given creation) status before after = Ends (MayCreate creation.draw_seed settings) status (unread before) (unread after)
@@ -67,21 +67,13 @@ EndsWithout (NoRequest.Help text) status before after = EndsHelp status
 EndsWithout (NoRequest.WordFault text) status before after = (status ≡ Status.WordFault) × Keeps before.output after.output
 EndsWithout NoRequest.Memory status before after = Keeps before.output after.output × Tells no_memory status before.errors after.errors
 
--- what messages call a source at this place
-abbrev pub name_at : Place → List ℕ
-name_at (Place.Input name) = name
-name_at (Place.File file) = file
-
--- how the words ask for sources to be reported, and what messages call these
+-- how the words ask for sources to be reported
 abbrev pub manner_in : List Row → Manner
 manner_in rows = record {
   form = form_in rows;
   warnings = has_flag (codes "warnings") rows || has_option (codes "deny") rows;
   deny = has_option (codes "deny") rows;
 }
-
-abbrev pub names_in : List Row → List (List ℕ)
-names_in rows = map name_at (places_named (codes "SOURCE") rows)
 
 -- memory ran out, and nothing is on the output
 abbrev pub LacksMemory : Status → Streams → Streams → Type 0
@@ -111,7 +103,7 @@ pub record EndsRun (view : View) (given : List (List ℕ)) (status : Status) (be
   pub asm : AsksFor view (codes "asm") given
       → EndsBy (given_by given) (λ s. EndsAsmFrom (reads_input given) (settings_of s) status before after) status before after
   pub check : AsksFor view (codes "check") given
-      → EndsBy (given_by given) (λ s. EndsCheck (manner_in (given_by given)) (names_in (given_by given)) (settings_of s) status (unread before) (unread after)) status before after
+      → EndsBy (given_by given) (λ s. EndsCheck (manner_in (given_by given)) (places_named (codes "SOURCE") (given_by given)) (settings_of s) status before after) status before after
   pub fight : AsksFor view (codes "fight") given
       → EndsBy (given_by given) (λ s. FightEnds (given_by given) (viewed (view_named given) view) (settings_of s) status (unread before) (unread after)) status before after
   pub create : AsksFor view (codes "create") given

@@ -1,5 +1,5 @@
 -- Each command ends as its request says, and none of them ends as at a fault of the arguments.
-use Rattle.{std.proofs.Common.{ap, is_some, subst, sym}, war_types.specs.Settings.settings_of, koth_commands.specs.{Check.names_of, Report.manner_of, Streams.{From, is_input, streams}}}
+use Rattle.{std.proofs.Common.{ap, is_some, subst, sym}, war_types.specs.Settings.settings_of, koth_commands.specs.{Check.places_of, Report.manner_of, Streams.{From, is_input, streams}}}
 use Rattle.koth_keeping.specs.{Answers.{Answers, SaysLine}, Audit.SaysAudit, Copies.{MayReseed, SaysCopied}, Created.MayCreate, Migration.migrated_line}
 use Rattle.{koth_hills.specs.{Hills.{AnswersSource, SaysReply, SaysShown, TellsNote, sight_of}, Page.SaysPage, Trials.SaysTrial}, koth_server.specs.Run.viewed}
 use Rattle.koth_server.proofs.{Carried.{asm_no_word, check_no_word, fight_no_word, replay_no_word, request_ends}, Performed.{noted, of_source, plain}}
@@ -16,7 +16,7 @@ returns-in-Asm g c =
 pub returns-in-Check : goal.returns-in-Check
 returns-in-Check g c =
     let after = streams (g.I.Read.remaining c.check.new.input) (g.O.Write.contents c.check.new.output) (g.E.Write.contents c.check.new.errors) in
-    let words = check_no_word (manner_of c.in-Check.checked) (names_of c.in-Check.checked) (settings_of c.args.settings) c.check.result _ _ c.check.ensures in
+    let words = check_no_word (manner_of c.in-Check.checked) (places_of c.in-Check.checked) (settings_of c.args.settings) c.check.result _ _ c.check.ensures in
     request_ends c.args.settings c.args.view _ _ _ _ after c.in-Check.is c.check.ensures words
 
 pub returns-in-Fight : goal.returns-in-Fight
