@@ -1,8 +1,8 @@
 -- The answer to a source.
-use Rattle.std.proofs.Common.{◌≡◌, ◌≢◌, ◌⊎◌, ◌∙◌, ℕ, List, [], Option, None, Some, Result, Ok, Err, OnErr, IfSome, false, true≢false, inl, inr, refl, ap, sym, subst}
+use Rattle.std.proofs.Common.{◌≡◌, ◌⊎◌, ◌∙◌, ℕ, List, [], Option, None, Some, Result, Ok, Err, OnErr, IfSome, false, true≢false, inl, inr, refl, ap, sym, subst}
 use Rattle.{war_types.specs.declared.fault.AsmFault.AsmFault, koth_hill.specs.Kept.Kept, sector_disk.specs.Facts.DeviceFacts, hill_store.specs.{Seen.{Seen, Submits}, declared.reply.Reply.Reply}}
 use Rattle.{koth_words.specs.declared.requests.View.View, koth_views.specs.{Roster.roster, declared.entrants.Entered.Entered}, koth_commands.specs.{Answer.AnswerParts, declared.status.Status.Status}}
-use Rattle.koth_hills.specs.{Hills.{AnswersReply, IsOutcome, IsPlacing, SaysReply, Submitted}, Json.{AreMatches, IsRefused}, ReplyStatus.reply_status}
+use Rattle.koth_hills.specs.{Hills.{AnswersReply, IsOutcome, IsPlacing, IsReplyTo, SaysReply, Submitted}, Json.{AreMatches, IsRefused}, ReplyStatus.reply_status}
 
 -- a source that is refused, and one for which the device is worn out, end so
 pub refused-status : (reply : Reply) → ((fault : AsmFault) × (reply ≡ Reply.Refused fault)) ⊎ (reply ≡ Reply.Worn) → Status.Refused ≡ reply_status reply
@@ -43,11 +43,15 @@ module _ {D : Type 0} (facts : DeviceFacts D) (old new : Seen D) (source : List 
   submitted reply more answer submits placing (inl whole) = (reply, submits, (more, placing, whole))
   submitted reply more answer submits placing (inr line) = (reply, submits, ([], placed_none view old.hill new.hill source reply, line))
 
-  -- a hill that was open answers no `REOPEN`
-  never_reopen : (reply : Reply) → Submits facts old source reply new → old.reopen ≡ false → reply ≢ Reply.Reopen
-  never_reopen reply submits is_open is =
-      let reopened : Submits facts old source Reply.Reopen new = subst (λ r. Submits facts old source r new) is submits in
-      true≢false (sym reopened.0 ∙ is_open)
+  -- the reply of a store that was open, by its hills
+  is_reply : (reply : Reply) → Submits facts old source reply new → old.reopen ≡ false → IsReplyTo old.hill source reply new.hill
+  is_reply (Reply.Placed entry rank score) submits is_open = (submits.0, submits.1.hill)
+  is_reply (Reply.Fell entry score) submits is_open = (submits.0, submits.1.hill)
+  is_reply (Reply.Refused fault) submits is_open = (submits.0, ap (λ (s : Seen D). s.hill) submits.2.same)
+  is_reply Reply.Memory submits is_open = ap (λ (s : Seen D). s.hill) submits.same
+  is_reply Reply.Worn submits is_open = (submits.1.0, submits.1.1, ap (λ (s : Seen D). s.hill) submits.2.same)
+  is_reply Reply.Disk submits is_open = (submits.0.0, submits.0.1, submits.1.hill)
+  is_reply Reply.Reopen submits is_open = true≢false (sym submits.0 ∙ is_open)
 
   -- a refusal changes nothing
   pub refused_left : (reply : Reply) → Submits facts old source reply new → IsRefused reply → new ≡ old
@@ -57,4 +61,4 @@ module _ {D : Type 0} (facts : DeviceFacts D) (old new : Seen D) (source : List 
 
   -- its answer is that of some hill
   pub says_reply : (answer : AnswerParts) → old.reopen ≡ false → Submitted facts old source new view answer → SaysReply view source answer
-  says_reply answer is_open (reply, submits, said) = (old.hill, new.hill, reply, never_reopen reply submits is_open, said)
+  says_reply answer is_open (reply, submits, said) = (old.hill, new.hill, reply, is_reply reply submits is_open, said)

@@ -1,9 +1,9 @@
 -- What a source that is tried is due, and how that is answered.
-use Rattle.std.proofs.Common.{◌≡◌, ◌⊎◌, ℕ, List, [], Option, None, Some, Result, Ok, Err, IfOk, inl, inr, refl, subst}
+use Rattle.std.proofs.Common.{◌≡◌, ◌⊎◌, ◌∙◌, ℕ, List, [], Option, None, Some, Result, Ok, Err, IfOk, false, true≢false, arith, inl, inr, refl, subst, sym}
 use Rattle.{koth_hill.specs.{Kept.Kept, declared.verdict.Verdict.Verdict}, sector_disk.specs.Facts.DeviceFacts}
 use Rattle.hill_store.specs.{declared.reply.Reply.Reply, Earned.kept_reply, Read.{IsJudged, IsTried}, Seen.{Seen, Submits}}
 use Rattle.{koth_words.specs.declared.requests.View.View, koth_commands.specs.Answer.AnswerParts}
-use Rattle.koth_hills.specs.{Hills.AnswersReply, Json.IsDue, Trials.{IsTrialText, SaysTrial, Tried}}
+use Rattle.koth_hills.specs.{Hills.AnswersReply, Json.IsDue, Trials.{IsTrialText, IsUnjudged, SaysTrial, Tried}}
 
 -- what holds on success, seen another way
 pub if_ok : {T E : Type 0} (result : Result T E) (P Q : T → Type 0) → ((x : T) → P x → Q x) → IfOk result P → IfOk result Q
@@ -32,10 +32,20 @@ module _ {D : Type 0} (facts : DeviceFacts D) (store : Seen D) (source : List �
   answered view reply answer submits (inl line) = (reply, [], inr (submits, refl), line)
   answered view reply answer submits (inr line) = (reply, [], inr (submits, refl), line)
 
+  -- a reply that changes nothing of a store that was open has no verdict
+  is_unjudged : (reply : Reply) → Submits facts store source reply store → store.reopen ≡ false → IsUnjudged store.hill source reply
+  is_unjudged (Reply.Placed entry rank score) submits is_open = let more = submits.1.generation in absurd (omega arith)
+  is_unjudged (Reply.Fell entry score) submits is_open = let more = submits.1.generation in absurd (omega arith)
+  is_unjudged (Reply.Refused fault) submits is_open = submits.0
+  is_unjudged Reply.Memory submits is_open = tt
+  is_unjudged Reply.Worn submits is_open = submits.1
+  is_unjudged Reply.Disk submits is_open = true≢false (sym submits.1.broken ∙ is_open)
+  is_unjudged Reply.Reopen submits is_open = true≢false (sym submits.0 ∙ is_open)
+
   -- the answer of a store's hill is that of some hill
-  pub says_trial : (view : View) (answer : AnswerParts) → Tried facts store source view answer → SaysTrial view source answer
-  says_trial view answer (reply, more, inl foretold, says) = (store.hill, reply, more, inl foretold, says)
-  says_trial view answer (reply, more, inr other, says) = (store.hill, reply, more, inr other.1, says)
+  pub says_trial : (view : View) (answer : AnswerParts) → store.reopen ≡ false → Tried facts store source view answer → SaysTrial view source answer
+  says_trial view answer is_open (reply, more, inl foretold, says) = (store.hill, reply, more, inl foretold, says)
+  says_trial view answer is_open (reply, more, inr other, says) = (store.hill, reply, more, inr (is_unjudged reply other.0 is_open, other.1), says)
 
   module _ (r : Option (Result Verdict Reply)) (tried : IsTried facts None store source r) where
     pub judged_of : (judged : Verdict) → r ≡ Some (Ok judged) → IsJudged store source judged

@@ -1,7 +1,9 @@
 -- What the commands on a hill in a file answer, and how they end.
 use Rattle.std.specs.{Prelude.{◌≡◌, ◌≢◌, ◌⊎◌, ℕ, nat_lt, Bool, if◌then◌else◌, List, [], Option, ◌++◌, Ok, Err, codes}, Io.KnownBytes.{Consumes, Keeps}}
-use Rattle.{war_types.specs.declared.fault.AsmFault.AsmFault, koth_hill.specs.{Kept.{Kept, table_kept}, declared.verdict.Verdict.Verdict}, sector_disk.specs.Facts.DeviceFacts}
-use Rattle.{hill_store.specs.{Seen.{Seen, Submits}, declared.reply.Reply.Reply}, koth_protocol.specs.{Matches.matches_text, Table.show_text}, koth_session.specs.Reply.reply_line}
+use Rattle.{war_types.specs.{Warrior.WarriorParts, declared.fault.AsmFault.AsmFault}, redcode_asm.specs.Assembly.assembly}
+use Rattle.{koth_hill.specs.{Kept.{Kept, table_kept}, declared.verdict.Verdict.Verdict}, sector_disk.specs.Facts.DeviceFacts}
+use Rattle.{hill_store.specs.{Earned.{kept_next, kept_reply}, Seen.{Seen, Submits}, declared.reply.Reply.Reply}, koth_session.specs.Reply.reply_line}
+use Rattle.koth_protocol.specs.{Matches.matches_text, Table.show_text}
 use Rattle.{koth_json.specs.Hill.hill_text, koth_words.specs.{Settings.given_as, declared.requests.Shown.Shown, declared.requests.View.View}}
 use Rattle.koth_views.specs.{Standing.hill_view, Matrix.matches_view, Placed.fell_text, Fallen.fallen_view, Roster.roster, declared.entrants.Entered.Entered}
 use Rattle.koth_commands.specs.{Answer.{AnswerParts, answer_parts}, Told.TellsWord, Streams.{From, Streams, Takes}, declared.status.Status.Status}
@@ -54,9 +56,21 @@ SaysSubmitted view old new source reply answer = (more : List ℕ) × IsPlacing 
 abbrev pub Submitted : {D : Type 0} → DeviceFacts D → Seen D → List ℕ → Seen D → View → AnswerParts → Type 0
 Submitted facts old source new view answer = (reply : Reply) × Submits facts old source reply new × SaysSubmitted view old.hill new.hill source reply answer
 
+-- the reply to a submission of the source, by the hill before and after it: a verdict or a refusal is what the source earns of the hill before it.
+-- A store that was just opened never answers `REOPEN`
+abbrev pub IsReplyTo : Kept → List ℕ → Reply → Kept → Type 0
+IsReplyTo old source (Reply.Placed entry rank score) new = (Reply.Placed entry rank score ≡ kept_reply old source) × (new ≡ kept_next old source)
+IsReplyTo old source (Reply.Fell entry score) new = (Reply.Fell entry score ≡ kept_reply old source) × (new ≡ kept_next old source)
+IsReplyTo old source (Reply.Refused fault) new = (Reply.Refused fault ≡ kept_reply old source) × (new ≡ old)
+IsReplyTo old source Reply.Memory new = new ≡ old
+IsReplyTo old source Reply.Worn new = (w : WarriorParts) × (assembly old.settings source ≡ Ok w) × (new ≡ old)
+IsReplyTo old source Reply.Disk new = (w : WarriorParts) × (assembly old.settings source ≡ Ok w) × (new ≡ old)
+IsReplyTo old source Reply.Reopen new = ⊥
+
 -- the same of some hill that was just opened
 abbrev pub SaysReply : View → List ℕ → AnswerParts → Type 0
-SaysReply view source answer = (old : Kept) × (new : Kept) × (reply : Reply) × (reply ≢ Reply.Reopen) × SaysSubmitted view old new source reply answer
+SaysReply view source answer =
+    (old : Kept) × (new : Kept) × (reply : Reply) × IsReplyTo old source reply new × SaysSubmitted view old new source reply answer
 
 -- what is answered to a source, by what its reader has left before and after: the answer to the source that was taken; or a fault, and then
 -- some of it may have been taken

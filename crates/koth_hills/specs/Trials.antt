@@ -1,5 +1,6 @@
 -- What `try` answers.
-use Rattle.std.specs.Prelude.{◌≡◌, ◌⊎◌, ℕ, if◌then◌else◌, List, []}
+use Rattle.std.specs.Prelude.{◌≡◌, ◌⊎◌, ℕ, if◌then◌else◌, List, [], Ok}
+use Rattle.{war_types.specs.Warrior.WarriorParts, redcode_asm.specs.Assembly.assembly}
 use Rattle.{koth_hill.specs.{Kept.Kept, declared.verdict.Verdict.Verdict}, sector_disk.specs.Facts.DeviceFacts}
 use Rattle.hill_store.specs.{Earned.kept_reply, Seen.{Seen, Submits}, declared.reply.Reply.Reply}
 use Rattle.{koth_words.specs.declared.requests.View.View, koth_views.specs.Fallen.{challenged_view, fallen_view}}
@@ -31,7 +32,17 @@ IsTrial facts store view source reply more =
 abbrev pub Tried : {D : Type 0} → DeviceFacts D → Seen D → List ℕ → View → AnswerParts → Type 0
 Tried facts store source view answer = (reply : Reply) × (more : List ℕ) × IsTrial facts store view source reply more × AnswersReply view reply more answer
 
--- the same of some hill
+-- a reply without a verdict to a source that is tried on this hill: the refusal that it earns, lack of memory, or for a warrior a worn device
+abbrev pub IsUnjudged : Kept → List ℕ → Reply → Type 0
+IsUnjudged hill source (Reply.Placed entry rank score) = ⊥
+IsUnjudged hill source (Reply.Fell entry score) = ⊥
+IsUnjudged hill source (Reply.Refused fault) = Reply.Refused fault ≡ kept_reply hill source
+IsUnjudged hill source Reply.Memory = Unit {0}
+IsUnjudged hill source Reply.Worn = (w : WarriorParts) × (assembly hill.settings source ≡ Ok w)
+IsUnjudged hill source Reply.Disk = ⊥
+IsUnjudged hill source Reply.Reopen = ⊥
+
+-- the same of some hill that was just opened
 abbrev pub SaysTrial : View → List ℕ → AnswerParts → Type 0
 SaysTrial view source answer = (hill : Kept) × (reply : Reply) × (more : List ℕ)
-    × (IsForetold view hill source reply more ⊎ (more ≡ [])) × AnswersReply view reply more answer
+    × (IsForetold view hill source reply more ⊎ (IsUnjudged hill source reply × (more ≡ []))) × AnswersReply view reply more answer

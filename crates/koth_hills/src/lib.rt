@@ -11,7 +11,8 @@
 //!
 //! The main clauses: `submit` answers with the line of the reply that this very submission had (`Submitted`), `try` with
 //! that of the reply which it would have, and the store is as it was (`Tried`, `unchanged`), and `show` with the table of
-//! this store's hill, or its settings (`sight_text`). Of files no contract can say what they hold.
+//! this store's hill, or its settings (`sight_text`). A source is what its reader gave, the input or an opened file
+//! (`AnswersSource`). Of files no contract can say what they hold.
 //!
 //! A hill must be opened before a source is read. `try`, `show` and `page` take no lock and write nothing.
 #![tactic(auto)]

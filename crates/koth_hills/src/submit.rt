@@ -11,7 +11,7 @@ use hill_file::TryLock;
 use hill_store::{Reply, Store};
 use koth_commands::trouble::Trouble;
 use koth_commands::{
-    Answer, RefusedSource, Status, explanation_of, refused_text, source_name, source_text,
+    Answer, RefusedSource, Status, explanation_of, reason_of, refused_text, source_text,
 };
 use koth_files::open_within;
 use koth_hill::Hill;
@@ -20,6 +20,7 @@ use koth_views::{Entered, roster};
 use koth_words::{Source, View};
 use sector_disk::Device;
 use std::alloc::{AllocError, Allocator};
+use std::fs;
 use std::io::Read;
 use std::rt::{Clock, Files};
 use war_types::{AsmFault, Settings};
@@ -49,7 +50,7 @@ where
     }
 }
 
-/// Reads a source, and submits it to a store that was just opened.
+/// Submits a source, of the input or of a file, to a store that was just opened. For a file nothing is taken from the input.
 fn submit_read<'s, R: Files, D: Device, A: Allocator + Copy, I: Read>(
     rt: &R,
     alloc: A,
@@ -61,10 +62,31 @@ fn submit_read<'s, R: Files, D: Device, A: Allocator + Copy, I: Read>(
     requires { store.old.reopen ≡ false }
     ensures { From (is_input source.entry) (λ i j. AnswersSource (SaysReply view) i j result) (I.remaining input.old) (I.remaining input.new) }
 {
-    match source_text(rt, alloc, source, input) {
+    match source {
+        Source::Input(name) => submit_text_from(rt, alloc, store, name, view, input),
+        Source::File(path) => match fs::open(rt, path) {
+            Ok(mut file) => submit_text_from(rt, alloc, store, path, view, &mut file),
+            Err(error) => Err(Trouble::file(path, reason_of(error.kind()))),
+        },
+    }
+}
+
+/// Submits the source that a reader has to a store that was just opened. `name` is what messages call it.
+fn submit_text_from<'s, R: Files, D: Device, A: Allocator + Copy, I: Read>(
+    rt: &R,
+    alloc: A,
+    store: &mut Store<D, A>,
+    name: &'s str,
+    view: View,
+    reader: &mut I,
+) -> Result<Answer<A>, Trouble<'s>>
+    requires { store.old.reopen ≡ false }
+    ensures { AnswersSource (SaysReply view) (I.remaining reader.old) (I.remaining reader.new) result }
+{
+    match source_text(rt, alloc, Source::Input(name), reader) {
         Ok(text) => {
             let source = SourceText {
-                name: source_name(source),
+                name,
                 text: text.as_slice(),
             };
             Ok(submit_source(alloc, store, source, view)?)

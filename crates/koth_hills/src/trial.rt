@@ -1,19 +1,20 @@
 //! The command `try`: what a submission would be answered.
 
-ghost use Rattle.std.specs.Prelude.{◌≡◌, IfOk};
+ghost use Rattle.std.specs.Prelude.{◌≡◌, false, IfOk};
 ghost use Rattle.{koth_commands.specs.Streams.{From, is_input}, koth_hills.specs.{Hills.AnswersSource, Trials.{IsTrialText, SaysTrial, Tried, trial_view}}};
 
 use crate::json::judged_lines;
 use crate::submit::{REPLY_LINE, SourceText, reply_answer};
 use hill_store::{Reply, Store};
 use koth_commands::trouble::Trouble;
-use koth_commands::{Answer, source_name, source_text};
+use koth_commands::{Answer, reason_of, source_text};
 use koth_files::look_hill;
 use koth_hill::{Hill, Verdict};
 use koth_views::{challenged_view, fallen_view};
 use koth_words::{Source, View};
 use sector_disk::Device;
 use std::alloc::{AllocError, Allocator};
+use std::fs;
 use std::io::Read;
 use std::rt::Files;
 
@@ -36,7 +37,7 @@ pub fn perform_try<'s, R: Files, A: Allocator + Copy, I: Read>(
     }
 }
 
-/// Reads a source, and tries it on the hill of a store.
+/// Tries a source, of the input or of a file, on the hill of a store that was just opened. For a file nothing is taken from the input.
 fn try_read<'s, R: Files, D: Device, A: Allocator + Copy, I: Read>(
     rt: &R,
     alloc: A,
@@ -45,12 +46,34 @@ fn try_read<'s, R: Files, D: Device, A: Allocator + Copy, I: Read>(
     view: View,
     input: &mut I,
 ) -> Result<Answer<A>, Trouble<'s>>
+    requires { store.old.reopen ≡ false }
     ensures { From (is_input source.entry) (λ i j. AnswersSource (SaysTrial view) i j result) (I.remaining input.old) (I.remaining input.new) }
 {
-    match source_text(rt, alloc, source, input) {
+    match source {
+        Source::Input(name) => try_text_from(rt, alloc, store, name, view, input),
+        Source::File(path) => match fs::open(rt, path) {
+            Ok(mut file) => try_text_from(rt, alloc, store, path, view, &mut file),
+            Err(error) => Err(Trouble::file(path, reason_of(error.kind()))),
+        },
+    }
+}
+
+/// Tries the source that a reader has on the hill of a store that was just opened. `name` is what messages call it.
+fn try_text_from<'s, R: Files, D: Device, A: Allocator + Copy, I: Read>(
+    rt: &R,
+    alloc: A,
+    store: &mut Store<D, A>,
+    name: &'s str,
+    view: View,
+    reader: &mut I,
+) -> Result<Answer<A>, Trouble<'s>>
+    requires { store.old.reopen ≡ false }
+    ensures { AnswersSource (SaysTrial view) (I.remaining reader.old) (I.remaining reader.new) result }
+{
+    match source_text(rt, alloc, Source::Input(name), reader) {
         Ok(text) => {
             let source = SourceText {
-                name: source_name(source),
+                name,
                 text: text.as_slice(),
             };
             Ok(try_source(alloc, store, source, view)?)

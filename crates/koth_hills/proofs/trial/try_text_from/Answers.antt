@@ -1,0 +1,15 @@
+-- The source that was taken was tried on the hill of a store that was just opened.
+use Rattle.{std.proofs.Common.{subst, sym}, koth_commands.specs.Streams.Takes, koth_hills.proofs.Tried.says_trial}
+use Rattle.koth_hills.proofs.trial.try_text_from.Goals as goal
+
+pub returns-in_ok-try_source-in-Ok : goal.returns-in_ok-try_source-in-Ok
+returns-in_ok-try_source-in-Ok g c =
+    let i = g.I.Read.remaining c.args.reader.now in
+    let j = g.I.Read.remaining c.source_text.new.input in
+    let source = c.as_slice.result.now in
+    let answer = c.in_ok-try_source-in-Ok.field-0 in
+    let tried = c.in_ok-try_source-in-Ok.ensures.tried in (
+      source,
+      subst (Takes i j) (sym c.as_slice.ensures.value) c.in-Ok.ensures.taken,
+      says_trial g.D.Device.facts c.args.store.now source c.args.view answer c.requires tried,
+    )
