@@ -11,7 +11,7 @@ use hill_file::TryLock;
 use hill_store::{Reply, Store};
 use koth_commands::trouble::Trouble;
 use koth_commands::{
-    Answer, RefusedSource, Status, explanation_of, reason_of, refused_text, source_text,
+    Answer, RefusedSource, Status, explanation_of, open_source, refused_text, text_from,
 };
 use koth_files::open_within;
 use koth_hill::Hill;
@@ -20,7 +20,6 @@ use koth_views::{Entered, roster};
 use koth_words::{Source, View};
 use sector_disk::Device;
 use std::alloc::{AllocError, Allocator};
-use std::fs;
 use std::io::Read;
 use std::rt::{Clock, Files};
 use war_types::{AsmFault, Settings};
@@ -63,17 +62,16 @@ fn submit_read<'s, R: Files, D: Device, A: Allocator + Copy, I: Read>(
     ensures { From (is_input source.entry) (λ i j. AnswersSource (SaysReply view) i j result) (I.remaining input.old) (I.remaining input.new) }
 {
     match source {
-        Source::Input(name) => submit_text_from(rt, alloc, store, name, view, input),
-        Source::File(path) => match fs::open(rt, path) {
-            Ok(mut file) => submit_text_from(rt, alloc, store, path, view, &mut file),
-            Err(error) => Err(Trouble::file(path, reason_of(error.kind()))),
+        Source::Input(name) => submit_text_from(alloc, store, name, view, input),
+        Source::File(path) => match open_source(rt, path) {
+            Ok(mut file) => submit_text_from(alloc, store, path, view, &mut file),
+            Err(trouble) => Err(trouble),
         },
     }
 }
 
 /// Submits the source that a reader has to a store that was just opened. `name` is what messages call it.
-fn submit_text_from<'s, R: Files, D: Device, A: Allocator + Copy, I: Read>(
-    rt: &R,
+fn submit_text_from<'s, D: Device, A: Allocator + Copy, I: Read>(
     alloc: A,
     store: &mut Store<D, A>,
     name: &'s str,
@@ -83,7 +81,7 @@ fn submit_text_from<'s, R: Files, D: Device, A: Allocator + Copy, I: Read>(
     requires { store.old.reopen ≡ false }
     ensures { AnswersSource (SaysReply view) (I.remaining reader.old) (I.remaining reader.new) result }
 {
-    match source_text(rt, alloc, Source::Input(name), reader) {
+    match text_from(alloc, name, reader) {
         Ok(text) => {
             let source = SourceText {
                 name,

@@ -7,14 +7,13 @@ use crate::json::judged_lines;
 use crate::submit::{REPLY_LINE, SourceText, reply_answer};
 use hill_store::{Reply, Store};
 use koth_commands::trouble::Trouble;
-use koth_commands::{Answer, reason_of, source_text};
+use koth_commands::{Answer, open_source, text_from};
 use koth_files::look_hill;
 use koth_hill::{Hill, Verdict};
 use koth_views::{challenged_view, fallen_view};
 use koth_words::{Source, View};
 use sector_disk::Device;
 use std::alloc::{AllocError, Allocator};
-use std::fs;
 use std::io::Read;
 use std::rt::Files;
 
@@ -50,17 +49,16 @@ fn try_read<'s, R: Files, D: Device, A: Allocator + Copy, I: Read>(
     ensures { From (is_input source.entry) (λ i j. AnswersSource (SaysTrial view) i j result) (I.remaining input.old) (I.remaining input.new) }
 {
     match source {
-        Source::Input(name) => try_text_from(rt, alloc, store, name, view, input),
-        Source::File(path) => match fs::open(rt, path) {
-            Ok(mut file) => try_text_from(rt, alloc, store, path, view, &mut file),
-            Err(error) => Err(Trouble::file(path, reason_of(error.kind()))),
+        Source::Input(name) => try_text_from(alloc, store, name, view, input),
+        Source::File(path) => match open_source(rt, path) {
+            Ok(mut file) => try_text_from(alloc, store, path, view, &mut file),
+            Err(trouble) => Err(trouble),
         },
     }
 }
 
 /// Tries the source that a reader has on the hill of a store that was just opened. `name` is what messages call it.
-fn try_text_from<'s, R: Files, D: Device, A: Allocator + Copy, I: Read>(
-    rt: &R,
+fn try_text_from<'s, D: Device, A: Allocator + Copy, I: Read>(
     alloc: A,
     store: &mut Store<D, A>,
     name: &'s str,
@@ -70,7 +68,7 @@ fn try_text_from<'s, R: Files, D: Device, A: Allocator + Copy, I: Read>(
     requires { store.old.reopen ≡ false }
     ensures { AnswersSource (SaysTrial view) (I.remaining reader.old) (I.remaining reader.new) result }
 {
-    match source_text(rt, alloc, Source::Input(name), reader) {
+    match text_from(alloc, name, reader) {
         Ok(text) => {
             let source = SourceText {
                 name,

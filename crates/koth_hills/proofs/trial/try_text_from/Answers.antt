@@ -5,7 +5,7 @@ use Rattle.koth_hills.proofs.trial.try_text_from.Goals as goal
 pub returns-in_ok-try_source-in-Ok : goal.returns-in_ok-try_source-in-Ok
 returns-in_ok-try_source-in-Ok g c =
     let i = g.I.Read.remaining c.args.reader.now in
-    let j = g.I.Read.remaining c.source_text.new.input in
+    let j = g.I.Read.remaining c.text_from.new.input in
     let source = c.as_slice.result.now in
     let answer = c.in_ok-try_source-in-Ok.field-0 in
     let tried = c.in_ok-try_source-in-Ok.ensures.tried in (
