@@ -1,3 +1,4 @@
 mod Growing
+mod Once
 mod Pushed
 mod Told

@@ -1,7 +1,7 @@
 //! What else is refused of a source in which a name is defined twice.
 
-ghost use Rattle.std.specs.Prelude.{◌≡◌, OnOk};
-ghost use Rattle.redcode_diagnosis.specs.{Further.{PutsFurther}, Told.{is_twice}};
+ghost use Rattle.std.specs.Prelude.{◌≡◌, OnOk, map};
+ghost use Rattle.{redcode_scene.specs.Faults.is_told, redcode_diagnosis.specs.{Further.{PutsFurther}, Told.{is_twice}}};
 
 use crate::diagnosis::{Diagnosis, is_memory, told};
 use bumpalo::Bump;
@@ -85,11 +85,15 @@ fn newest<A: Allocator>(all: &[Diagnosis<A>]) -> Option<Place> {
 }
 
 /// Whether a refusal of this line is among these.
-fn is_told<A: Allocator>(all: &[Diagnosis<A>], line: u32) -> bool {
-    for diagnosis in all {
+fn is_told<A: Allocator>(all: &[Diagnosis<A>], line: u32) -> bool
+    ensures { result ≡ is_told (map (λ d. d.fault) all.now) line }
+{
+    let mut rest = all;
+    while let [diagnosis, behind @ ..] = rest {
         if diagnosis.fault.line == line {
             return true;
         }
+        rest = behind;
     }
     false
 }

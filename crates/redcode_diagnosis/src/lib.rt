@@ -4,8 +4,8 @@
 //! of them beside an assembly. `text` writes a refusal or one of `redcode_warnings`' warnings.
 //!
 //! The main clauses: `diagnose` answers no refusal if `assembly` gives a warrior, and else the assembler's first and after it those that
-//! `redcode_scene` defines (`TellsAll`). Each place lies within its line (`IsPlaceIn`). `text_of` and `warning_text_of` begin with what
-//! and where the fault is (`Text` in `specs`).
+//! `redcode_scene` defines (`TellsAll`). After a name that is defined twice others may stand, no two of one line. Each place lies within
+//! its line (`IsPlaceIn`). `text_of` and `warning_text_of` begin with what and where the fault is (`Text` in `specs`).
 //!
 //! Nothing here changes what is refused.
 #![tactic(auto)]
