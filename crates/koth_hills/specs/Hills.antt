@@ -1,12 +1,12 @@
 -- What the commands on a hill in a file answer, and how they end.
-use Rattle.std.specs.{Prelude.{◌≡◌, ◌≢◌, ◌⊎◌, ℕ, nat_lt, Bool, if◌then◌else◌, List, [], Option, ◌++◌, Ok, Err, codes}, Io.KnownBytes.{Consumes, Keeps}}
+use Rattle.std.specs.{Prelude.{◌≡◌, ◌≢◌, ◌⊎◌, ℕ, nat_lt, Bool, if◌then◌else◌, List, [], Option, ◌++◌, Ok, Err, codes}, Io.KnownBytes.Keeps}
 use Rattle.{war_types.specs.{Warrior.WarriorParts, declared.fault.AsmFault.AsmFault}, redcode_asm.specs.Assembly.assembly}
 use Rattle.{koth_hill.specs.{Kept.{Kept, table_kept}, declared.verdict.Verdict.Verdict}, sector_disk.specs.Facts.DeviceFacts}
 use Rattle.{hill_store.specs.{Earned.{kept_next, kept_reply}, Seen.{Seen, Submits}, declared.reply.Reply.Reply}, koth_session.specs.Reply.reply_line}
 use Rattle.koth_protocol.specs.{Matches.matches_text, Table.show_text}
 use Rattle.{koth_json.specs.Hill.hill_text, koth_words.specs.{Settings.given_as, declared.requests.Shown.Shown, declared.requests.View.View}}
 use Rattle.koth_views.specs.{Standing.hill_view, Matrix.matches_view, Placed.fell_text, Fallen.fallen_view, Roster.roster, declared.entrants.Entered.Entered}
-use Rattle.koth_commands.specs.{Answer.{AnswerParts, answer_parts}, Told.TellsWord, Streams.{From, Streams, Takes}, declared.status.Status.Status}
+use Rattle.koth_commands.specs.{Answer.{AnswerParts, answer_parts}, Told.TellsWord, Streams.{From, Streams, Takes, TakesSome}, declared.status.Status.Status}
 use Rattle.{koth_files.specs.Trouble.IsOfHill, koth_keeping.specs.Answers.{Ends, Outcome}}
 use Rattle.koth_hills.specs.{Json.{AreMatches, IsDue, IsJsonText}, Placing.placing_view, ReplyStatus.reply_status, Settings.settings_text, Width.{longest_line, terminal_width}}
 
@@ -76,7 +76,7 @@ SaysReply view source answer =
 -- some of it may have been taken
 abbrev pub AnswersSource : (List ℕ → AnswerParts → Type 0) → Option (List ℕ) → Option (List ℕ) → Outcome → Type 0
 AnswersSource Says i j (Ok answer) = (source : List ℕ) × Takes i j source × Says source answer
-AnswersSource Says i j (Err trouble) = IsOfHill trouble × ((taken : List ℕ) × Consumes i j taken)
+AnswersSource Says i j (Err trouble) = IsOfHill trouble × TakesSome i j
 
 -- how a command on a source ends, that is read from the input or from a file
 abbrev pub EndsSource : Bool → (List ℕ → AnswerParts → Type 0) → Status → Streams → Streams → Type 0
