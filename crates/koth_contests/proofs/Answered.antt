@@ -30,6 +30,18 @@ module _ (s : RawSettings) (view : View) (IsTold : List ℕ → Type 0) (IsNothi
   answers_none (Ok a) is = none_as a.status a.text a.note is
   answers_none (Err trouble) is = is
 
+  -- what is told of a match is also told in another sense
+  so_as : (IsSo : List ℕ → Type 0) → ((text : List ℕ) → IsTold text → IsSo text) → (status : Status) (text note : List ℕ)
+      → AnswersAs s view IsTold IsNothing status text note → AnswersAs s view IsSo IsNothing status text note
+  so_as IsSo so Status.Done text note (told, none) = (so text told, none)
+  so_as IsSo so Status.Refused text note answers = answers
+  so_as IsSo so status text note answers = absurd answers
+
+  pub answers_so : (IsSo : List ℕ → Type 0) → ((text : List ℕ) → IsTold text → IsSo text) → (r : Result AnswerParts Trouble)
+      → MatchResult r (IsAnswer s view IsTold IsNothing) IsReadFault → MatchResult r (IsAnswer s view IsSo IsNothing) IsReadFault
+  answers_so IsSo so (Ok a) is = so_as IsSo so a.status a.text a.note is
+  answers_so IsSo so (Err trouble) is = is
+
   -- the answer is done, with a text that is told
   pub done_answers : (text : List ℕ) (a : AnswerParts) → a ≡ answer_parts Status.Done text [] → IsTold text → IsAnswer s view IsTold IsNothing a
   done_answers text a is told = subst (IsAnswer s view IsTold IsNothing) (sym is) (told, refl)

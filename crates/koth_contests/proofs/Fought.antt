@@ -1,9 +1,9 @@
 -- What is written of a match, and how the commands of many matches end.
-use Rattle.std.proofs.Common.{◌≡◌, inl, inr, ℕ, List, Option, sym, ap, ap₂, subst, ◌∙◌}
+use Rattle.std.proofs.Common.{◌≡◌, inl, inr, ℕ, Bool, true, false, List, Option, sym, ap, ap₂, subst, ◌∙◌}
 use Rattle.{std.proofs.KnownBytes.Keeps-refl, war_types.specs.{Warrior.WarriorParts, declared.settings.RawSettings.RawSettings}}
 use Rattle.koth_commands.specs.{Pair.IsWarriorOf, Trouble.{Tells, no_memory}, declared.{status.Status.Status, trouble.Trouble.Trouble}}
-use Rattle.{koth_words.specs.declared.requests.{Source.Source, View.View}, koth_match.specs.declared.bout.Bout.Bout, koth_commands.specs.Streams.source_name}
-use Rattle.koth_contests.specs.{Fight.{EndsMany, bout_text}, Lines.entrant, Met.EndsMeetings, Opponents.{AreFiles, names_of}, declared.{meeting.Terms.Terms, opponents.Opponent.Opponent}}
+use Rattle.{koth_words.specs.declared.requests.{Source.Source, View.View}, koth_match.specs.declared.bout.Bout.Bout, koth_commands.specs.Streams.{From, is_input, source_name}}
+use Rattle.koth_contests.specs.{Fight.{EndsMany, IsFought, IsFoughtOf, bout_text}, Lines.entrant, Met.EndsMeetings, Pair.TakesWarrior, Opponents.{AreFiles, names_of}, declared.{meeting.Terms.Terms, opponents.Opponent.Opponent}}
 
 -- the text of the counts of a match has nothing but these values
 pub bout_told : (view : View) (older younger : WarriorParts) (first second one two : List ℕ) (bout is : Bout) → first ≡ one → second ≡ two → bout ≡ is
@@ -11,6 +11,22 @@ pub bout_told : (view : View) (older younger : WarriorParts) (first second one t
 bout_told view older younger first second one two bout is at_first at_second same =
     ap₂ (λ a b. bout_text view (entrant a older) (entrant b younger) bout) at_first at_second
     ∙ ap (bout_text view (entrant one older) (entrant two younger)) same
+
+-- a warrior whose source was taken comes of some source
+some_source : (s : RawSettings) (warrior : WarriorParts) (of_input : Bool) (i j : Option (List ℕ))
+    → From of_input (TakesWarrior s warrior) i j → IsWarriorOf s warrior
+some_source s warrior true i j taken = taken.0
+some_source s warrior false i j taken = taken.0.0
+
+pub fought : (s : RawSettings) (first second : Source) (each : Bool) (view : View) (i k : Option (List ℕ)) (text : List ℕ)
+    → IsFoughtOf s first second each view i k text → IsFought s first second each view text
+fought s first second each view i k text w = record {
+  older = w.older;
+  younger = w.younger;
+  older_comes = some_source s w.older (is_input first) i w.taken.0 w.taken.1;
+  younger_comes = some_source s w.younger (is_input second) w.taken.0 k w.taken.2;
+  tells = w.tells;
+}
 
 module _ (s : RawSettings) (first : Source) (words : List Source) (terms : Terms) (status : Status) where
   pub many_lost : (trouble : Trouble) (o e f : Option (List ℕ)) → trouble ≡ no_memory → Tells trouble status e f → EndsMany s first words terms status o o e f

@@ -5,3 +5,4 @@ mod Found
 mod Meetings
 mod Written
 mod Pages
+mod Taken

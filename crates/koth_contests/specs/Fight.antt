@@ -2,8 +2,8 @@
 use Rattle.std.specs.Prelude.{◌≡◌, ◌⊎◌, ℕ, Bool, true, false, Option, List, [], ◌∷◌, ◌++◌, Result, codes, decimal}
 use Rattle.war_types.specs.{Warrior.WarriorParts, declared.settings.RawSettings.RawSettings, declared.settings.SettingsFault.SettingsFault}
 use Rattle.{koth_match.specs.{Match.match_of, declared.bout.Bout.Bout}, koth_text.specs.{Bout.bout_view, Tally.of_older}, koth_words.specs.declared.requests.{Fighters.Fighters, Source.Source, View.View}}
-use Rattle.koth_commands.specs.{Answer.EndsGiven, Pair.IsWarriorOf, Streams.{Streams, source_name}, declared.status.Status.Status}
-use Rattle.koth_contests.specs.{Lines.{Entrant, contender, contest_line, entrant}, Met.EndsMeetings, Opponents.AreFiles, Pair.EndsMatch, Rounds.IsEach, declared.meeting.Terms.Terms}
+use Rattle.koth_commands.specs.{Answer.EndsGiven, Pair.IsWarriorOf, Streams.{Streams, is_input, source_name}, declared.status.Status.Status}
+use Rattle.koth_contests.specs.{Lines.{Entrant, contender, contest_line, entrant}, Met.EndsMeetings, Opponents.AreFiles, Pair.{EndsMatch, TakesBoth}, Rounds.IsEach, declared.meeting.Terms.Terms}
 
 -- the line of a match: rounds that the older won, that the younger won, and ties
 abbrev pub bout_line : Bout → List ℕ
@@ -26,6 +26,13 @@ pub record IsFought (s : RawSettings) (first second : Source) (each : Bool) (vie
   pub younger : WarriorParts
   pub older_comes : IsWarriorOf s older
   pub younger_comes : IsWarriorOf s younger
+  pub tells : IsToldOf s each view (entrant (source_name first) older) (entrant (source_name second) younger) text
+
+-- the same of the sources that were taken, by what the input has left before and after
+pub record IsFoughtOf (s : RawSettings) (first second : Source) (each : Bool) (view : View) (i k : Option (List ℕ)) (text : List ℕ) : Type 0 where
+  pub older : WarriorParts
+  pub younger : WarriorParts
+  pub taken : TakesBoth s (is_input first) (is_input second) older younger i k
   pub tells : IsToldOf s each view (entrant (source_name first) older) (entrant (source_name second) younger) text
 
 -- how `fight` of one warrior, mine, against many ends, by what the output and then standard error hold before and after: mine meets the opponents

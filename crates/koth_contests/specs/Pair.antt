@@ -1,7 +1,8 @@
 -- Two warriors from two sources, and how a command of their match ends.
-use Rattle.std.specs.{Prelude.{◌≡◌, ◌⊎◌, ℕ, Option, List, [], Err}, Io.KnownBytes.{Appends, Keeps}}
-use Rattle.{war_types.specs.{declared.fault.AsmFault.AsmFault, declared.settings.RawSettings.RawSettings}, redcode_asm.specs.Assembly.assembly, koth_text.specs.Written.WritesPart, koth_words.specs.declared.requests.View.View}
-use Rattle.koth_commands.specs.{Answer.{AnswerParts, SaysRefused}, Pair.{IsFaultOf, IsWarriorOf}, Told.{TellsWord, WritesSome}, Trouble.{IsReadFault, fault_word}}
+use Rattle.std.specs.{Prelude.{◌≡◌, ◌⊎◌, ℕ, Bool, Option, List, [], Result, Ok, Err}, Io.KnownBytes.{Appends, Consumes, Keeps}}
+use Rattle.war_types.specs.{Warrior.WarriorParts, declared.fault.AsmFault.AsmFault, declared.settings.RawSettings.RawSettings}
+use Rattle.{redcode_asm.specs.Assembly.assembly, koth_text.specs.Written.WritesPart, koth_words.specs.declared.requests.View.View}
+use Rattle.koth_commands.specs.{Answer.{AnswerParts, SaysRefused}, Pair.{IsFaultOf, IsWarriorOf}, Streams.{From, Takes}, Told.{TellsWord, WritesSome}, Trouble.{IsReadFault, fault_word}}
 use Rattle.koth_commands.specs.declared.{status.Status.Status, trouble.{Fault.Fault}}
 use Rattle.koth_contests.specs.declared.pair.{NoWarrior.NoWarrior, Pair.Pair}
 
@@ -14,6 +15,32 @@ pub record ArePairOf {A : Type 0} (s : RawSettings) (pair : Pair A) : Type 0 whe
 abbrev pub IsNoneOf : {A : Type 0} → RawSettings → NoWarrior A → Type 0
 IsNoneOf s (NoWarrior.Refused name text fault) = assembly s text.items ≡ Err fault
 IsNoneOf s (NoWarrior.Failed trouble) = IsReadFault trouble
+
+-- a source was taken that assembles to the warrior, by what its reader has left before and after
+abbrev pub TakesWarrior : RawSettings → WarriorParts → Option (List ℕ) → Option (List ℕ) → Type 0
+TakesWarrior s warrior i j = (made : IsWarriorOf s warrior) × Takes i j made.source
+
+-- a source was taken that is refused with this fault; or it could not be read, and some of it may have been taken
+abbrev pub TakesNone : {A : Type 0} → RawSettings → NoWarrior A → Option (List ℕ) → Option (List ℕ) → Type 0
+TakesNone s (NoWarrior.Refused name text fault) i j = (assembly s text.items ≡ Err fault) × Takes i j text.items
+TakesNone s (NoWarrior.Failed trouble) i j = IsReadFault trouble × ((taken : List ℕ) × Consumes i j taken)
+
+-- what comes of the source that was taken
+abbrev pub IsTaken : {A : Type 0} → RawSettings → Result WarriorParts (NoWarrior A) → Option (List ℕ) → Option (List ℕ) → Type 0
+IsTaken s (Ok warrior) i j = TakesWarrior s warrior i j
+IsTaken s (Err none) i j = TakesNone s none i j
+
+-- the sources of both were taken, each from the input or else from a file: the older one's first
+abbrev pub TakesBoth : RawSettings → Bool → Bool → WarriorParts → WarriorParts → Option (List ℕ) → Option (List ℕ) → Type 0
+TakesBoth s first second older younger i k =
+    (j : Option (List ℕ)) × From first (TakesWarrior s older) i j × From second (TakesWarrior s younger) j k
+
+-- what comes of two sources: both warriors; or one of the sources gives none, and nothing was taken after it
+abbrev pub AreTaken : {A : Type 0} → RawSettings → Bool → Bool → Result (Pair A) (NoWarrior A) → Option (List ℕ) → Option (List ℕ) → Type 0
+AreTaken s first second (Ok pair) i k = TakesBoth s first second pair.older pair.younger i k
+AreTaken s first second (Err none) i k =
+    From first (TakesNone s none) i k
+    ⊎ ((older : WarriorParts) × (j : Option (List ℕ)) × From first (TakesWarrior s older) i j × From second (TakesNone s none) j k)
 
 -- a source is refused, and this is written of it
 abbrev pub IsRefused : RawSettings → View → List ℕ → Type 0

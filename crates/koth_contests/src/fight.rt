@@ -2,7 +2,7 @@
 
 ghost use Rattle.std.specs.Prelude.{◌≡◌, None, IfOk, MatchOption, MatchResult};
 ghost use Rattle.{war_types.specs.Settings.settings_of, koth_commands.specs.{Pair.IsWarriorOf, Streams.{source_name, streams}, Trouble.IsReadFault}};
-ghost use Rattle.koth_contests.specs.{Lines.entrant, Fight.{bout_line, bout_text, EndsFight, EndsFightUnder, EndsMany, IsAlone, IsFought, IsToldOf, MayBeMany}, Pair.{ArePairOf, IsAnswer}};
+ghost use Rattle.koth_contests.specs.{Lines.entrant, Fight.{bout_line, bout_text, EndsFight, EndsFightUnder, EndsMany, IsAlone, IsFoughtOf, IsToldOf, MayBeMany}, Pair.{ArePairOf, IsAnswer}};
 
 use crate::lines::{contender, contest_line};
 use crate::meeting::{Terms, meet_all};
@@ -93,7 +93,8 @@ fn fight_two<'f, R: Files, A: Allocator + Copy, I: Read>(
     input: &mut I,
 ) -> Result<Answer<A>, Trouble<'f>>
     ensures { MatchResult result (IsAnswer settings.now view
-        (IsFought settings.now fighters.now.older younger.entry fighters.now.each view) ⊥) IsReadFault }
+        (IsFoughtOf settings.now fighters.now.older younger.entry fighters.now.each view
+        (I.remaining input.old) (I.remaining input.new)) ⊥) IsReadFault }
 {
     let older = fighters.older;
     match pair_from(rt, alloc, settings, older, younger, input) {

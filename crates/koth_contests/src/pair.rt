@@ -1,13 +1,15 @@
 //! The warriors that sources assemble to, and the answer if there are none.
 
 ghost use Rattle.std.specs.Prelude.{MatchResult};
-ghost use Rattle.{koth_commands.specs.{Pair.IsWarriorOf, Trouble.IsReadFault}, koth_contests.specs.Pair.{ArePairOf, IsAnswer, IsNoneOf}};
+ghost use Rattle.koth_commands.specs.{Pair.IsWarriorOf, Streams.{From, is_input}, Trouble.IsReadFault};
+ghost use Rattle.koth_contests.specs.Pair.{ArePairOf, AreTaken, IsAnswer, IsNoneOf, IsTaken};
 
 use koth_commands::trouble::Trouble;
-use koth_commands::{Answer, RefusedSource, refusal, source_name, source_text};
+use koth_commands::{Answer, RefusedSource, reason_of, refusal, source_text};
 use koth_words::{Source, View};
 use redcode_asm::assemble;
 use std::alloc::Allocator;
+use std::fs;
 use std::io::Read;
 use std::rt::Files;
 use war_types::{AsmFault, AsmKind, Settings, Warrior};
@@ -38,7 +40,8 @@ pub(crate) fn pair_from<'f, R: Files, A: Allocator + Copy, I: Read>(
     younger: Source<'f>,
     input: &mut I,
 ) -> Result<Pair<A>, NoWarrior<'f, A>>
-    ensures { MatchResult result (ArePairOf settings.now) (IsNoneOf settings.now) }
+    ensures comes { MatchResult result (ArePairOf settings.now) (IsNoneOf settings.now) }
+    ensures taken { AreTaken settings.now (is_input older.entry) (is_input younger.entry) result (I.remaining input.old) (I.remaining input.new) }
 {
     let older = match warrior_from(rt, alloc, settings, older, input) {
         Ok(warrior) => warrior,
@@ -58,9 +61,30 @@ pub(crate) fn warrior_from<'f, R: Files, A: Allocator + Copy, I: Read>(
     source: Source<'f>,
     input: &mut I,
 ) -> Result<Warrior<A>, NoWarrior<'f, A>>
-    ensures { MatchResult result (IsWarriorOf settings.now) (IsNoneOf settings.now) }
+    ensures comes { MatchResult result (IsWarriorOf settings.now) (IsNoneOf settings.now) }
+    ensures taken { From (is_input source.entry) (IsTaken settings.now result) (I.remaining input.old) (I.remaining input.new) }
 {
-    let text = match source_text(rt, alloc, source, input) {
+    match source {
+        Source::Input(name) => warrior_of(rt, alloc, settings, name, input),
+        Source::File(path) => match fs::open(rt, path) {
+            Ok(mut file) => warrior_of(rt, alloc, settings, path, &mut file),
+            Err(error) => Err(NoWarrior::Failed(Trouble::file(path, reason_of(error.kind())))),
+        },
+    }
+}
+
+/// The warrior that the source in a reader assembles to. `name` is what messages call it.
+fn warrior_of<'f, R: Files, A: Allocator + Copy, I: Read>(
+    rt: &R,
+    alloc: A,
+    settings: &Settings,
+    name: &'f str,
+    reader: &mut I,
+) -> Result<Warrior<A>, NoWarrior<'f, A>>
+    ensures comes { MatchResult result (IsWarriorOf settings.now) (IsNoneOf settings.now) }
+    ensures taken { IsTaken settings.now result (I.remaining reader.old) (I.remaining reader.new) }
+{
+    let text = match source_text(rt, alloc, Source::Input(name), reader) {
         Ok(text) => text,
         Err(trouble) => return Err(NoWarrior::Failed(trouble)),
     };
@@ -69,7 +93,7 @@ pub(crate) fn warrior_from<'f, R: Files, A: Allocator + Copy, I: Read>(
         Err(fault) if matches!(fault.kind, AsmKind::Memory) => {
             Err(NoWarrior::Failed(Trouble::memory()))
         }
-        Err(fault) => Err(NoWarrior::Refused(source_name(source), text, fault)),
+        Err(fault) => Err(NoWarrior::Refused(name, text, fault)),
     }
 }
 

@@ -1,13 +1,18 @@
 -- The match of two is told, or the matches of one against many.
-use Rattle.{std.proofs.Common.{inl, inr}, koth_contests.proofs.Answered.delivered_ends}
+use Rattle.{std.proofs.Common.{inl, inr}, koth_contests.{specs.Fight.{IsFought, IsFoughtOf}, proofs.{Answered.{answers_so, delivered_ends}, Fought.fought}}}
 use Rattle.koth_contests.proofs.fight.fight_under.Goals as goal
 
 pub returns-in-Some : goal.returns-in-Some
-returns-in-Some g c = inl (
-  c.in-Some.younger,
-  c.in-Some.ensures,
-  delivered_ends _ _ _ _ _ _ _ _ c.fight_two-done.result c.deliver.result c.fight_two-done.ensures c.deliver.ensures,
-)
+returns-in-Some g c =
+    let s = c.args.settings.now in
+    let given = c.args.fighters.now in
+    let view = c.args.view in
+    let i = g.I.Read.remaining c.args.input.now in
+    let k = g.I.Read.remaining c.fight_two-done.new.input in
+    let younger = c.in-Some.younger in
+    let done = answers_so s view (IsFoughtOf s given.older younger given.each view i k) ⊥ (IsFought s given.older younger given.each view)
+    (fought s given.older younger given.each view i k) c.fight_two-done.result c.fight_two-done.ensures in
+    inl (younger, c.in-Some.ensures, delivered_ends _ _ _ _ _ _ _ _ c.fight_two-done.result c.deliver.result done c.deliver.ensures)
 
 pub returns-in-None : goal.returns-in-None
 returns-in-None g c = inr (c.in-None.ensures, c.fight_many.ensures)
