@@ -31,7 +31,7 @@ pub use cause::{Cause, Reason, Subject, reason_of};
 pub use explanation::{explain, explanation_of};
 pub use name::put_name;
 pub use settings::refuse_settings;
-pub use source::{open_source, source_name, source_text, text_from};
+pub use source::{open_source, source_name, text_from};
 pub use status::Status;
 pub use stream::{StreamFault, fill, write_whole};
 pub use telling::tell_word;

@@ -1,7 +1,7 @@
 //! A source that is read from standard input or from a file.
 
 ghost use Rattle.std.specs.Prelude.{◌≡◌, IfOk, IfErr};
-ghost use Rattle.koth_commands.specs.{Trouble.IsReadFault, Streams.{From, Takes, TakesSome, is_input, source_name}};
+ghost use Rattle.koth_commands.specs.{Trouble.IsReadFault, Streams.{Takes, TakesSome, source_name}};
 
 use crate::cause::reason_of;
 use crate::stream::fill;
@@ -23,27 +23,6 @@ pub fn source_name<'w>(source: Source<'w>) -> &'w str
     match source {
         Source::Input(name) => name,
         Source::File(path) => path,
-    }
-}
-
-/// What a source has, up to one byte more than it may have. Nothing is taken from the input for a file.
-pub fn source_text<'w, R: Files, A: Allocator + Copy, I: Read>(
-    rt: &R,
-    alloc: A,
-    source: Source<'w>,
-    input: &mut I,
-) -> Result<Vec<u8, A>, Trouble<'w>>
-    ensures taken { IfOk result (λ text. From (is_input source.entry) (λ old new. Takes old new text.items)
-        (I.remaining input.old) (I.remaining input.new)) }
-    ensures lost { IfErr result (λ trouble. IsReadFault trouble × From (is_input source.entry) TakesSome
-        (I.remaining input.old) (I.remaining input.new)) }
-{
-    match source {
-        Source::Input(name) => text_from(alloc, name, input),
-        Source::File(path) => match open_source(rt, path) {
-            Ok(mut file) => text_from(alloc, path, &mut file),
-            Err(trouble) => Err(trouble),
-        },
     }
 }
 

@@ -1,8 +1,8 @@
 -- Two warriors from two sources, and how a command of their match ends.
-use Rattle.std.specs.{Prelude.{◌≡◌, ◌⊎◌, ℕ, Bool, Option, List, [], Result, Ok, Err}, Io.KnownBytes.{Appends, Consumes, Keeps}}
+use Rattle.std.specs.{Prelude.{◌≡◌, ◌⊎◌, ℕ, Bool, Option, List, [], Result, Ok, Err}, Io.KnownBytes.{Appends, Keeps}}
 use Rattle.war_types.specs.{Warrior.WarriorParts, declared.fault.AsmFault.AsmFault, declared.settings.RawSettings.RawSettings}
 use Rattle.{redcode_asm.specs.Assembly.assembly, koth_text.specs.Written.WritesPart, koth_words.specs.declared.requests.View.View}
-use Rattle.koth_commands.specs.{Answer.{AnswerParts, SaysRefused}, Pair.{IsFaultOf, IsWarriorOf}, Streams.{From, Takes}, Told.{TellsWord, WritesSome}, Trouble.{IsReadFault, fault_word}}
+use Rattle.koth_commands.specs.{Answer.{AnswerParts, SaysRefused}, Pair.{IsFaultOf, IsWarriorOf}, Streams.{From, Takes, TakesSome}, Told.{TellsWord, WritesSome}, Trouble.{IsReadFault, fault_word}}
 use Rattle.koth_commands.specs.declared.{status.Status.Status, trouble.{Fault.Fault}}
 use Rattle.koth_contests.specs.declared.pair.{NoWarrior.NoWarrior, Pair.Pair}
 
@@ -23,7 +23,7 @@ TakesWarrior s warrior i j = (made : IsWarriorOf s warrior) × Takes i j made.so
 -- a source was taken that is refused with this fault; or it could not be read, and some of it may have been taken
 abbrev pub TakesNone : {A : Type 0} → RawSettings → NoWarrior A → Option (List ℕ) → Option (List ℕ) → Type 0
 TakesNone s (NoWarrior.Refused name text fault) i j = (assembly s text.items ≡ Err fault) × Takes i j text.items
-TakesNone s (NoWarrior.Failed trouble) i j = IsReadFault trouble × ((taken : List ℕ) × Consumes i j taken)
+TakesNone s (NoWarrior.Failed trouble) i j = IsReadFault trouble × TakesSome i j
 
 -- what comes of the source that was taken
 abbrev pub IsTaken : {A : Type 0} → RawSettings → Result WarriorParts (NoWarrior A) → Option (List ℕ) → Option (List ℕ) → Type 0

@@ -5,11 +5,10 @@ ghost use Rattle.koth_commands.specs.{Pair.IsWarriorOf, Streams.{From, is_input}
 ghost use Rattle.koth_contests.specs.Pair.{ArePairOf, AreTaken, IsAnswer, IsNoneOf, IsTaken};
 
 use koth_commands::trouble::Trouble;
-use koth_commands::{Answer, RefusedSource, reason_of, refusal, source_text};
+use koth_commands::{Answer, RefusedSource, open_source, refusal, text_from};
 use koth_words::{Source, View};
 use redcode_asm::assemble;
 use std::alloc::Allocator;
-use std::fs;
 use std::io::Read;
 use std::rt::Files;
 use war_types::{AsmFault, AsmKind, Settings, Warrior};
@@ -65,17 +64,16 @@ pub(crate) fn warrior_from<'f, R: Files, A: Allocator + Copy, I: Read>(
     ensures taken { From (is_input source.entry) (IsTaken settings.now result) (I.remaining input.old) (I.remaining input.new) }
 {
     match source {
-        Source::Input(name) => warrior_of(rt, alloc, settings, name, input),
-        Source::File(path) => match fs::open(rt, path) {
-            Ok(mut file) => warrior_of(rt, alloc, settings, path, &mut file),
-            Err(error) => Err(NoWarrior::Failed(Trouble::file(path, reason_of(error.kind())))),
+        Source::Input(name) => warrior_of(alloc, settings, name, input),
+        Source::File(path) => match open_source(rt, path) {
+            Ok(mut file) => warrior_of(alloc, settings, path, &mut file),
+            Err(trouble) => Err(NoWarrior::Failed(trouble)),
         },
     }
 }
 
 /// The warrior that the source in a reader assembles to. `name` is what messages call it.
-fn warrior_of<'f, R: Files, A: Allocator + Copy, I: Read>(
-    rt: &R,
+fn warrior_of<'f, A: Allocator + Copy, I: Read>(
     alloc: A,
     settings: &Settings,
     name: &'f str,
@@ -84,7 +82,7 @@ fn warrior_of<'f, R: Files, A: Allocator + Copy, I: Read>(
     ensures comes { MatchResult result (IsWarriorOf settings.now) (IsNoneOf settings.now) }
     ensures taken { IsTaken settings.now result (I.remaining reader.old) (I.remaining reader.new) }
 {
-    let text = match source_text(rt, alloc, Source::Input(name), reader) {
+    let text = match text_from(alloc, name, reader) {
         Ok(text) => text,
         Err(trouble) => return Err(NoWarrior::Failed(trouble)),
     };
