@@ -65,7 +65,7 @@ pub(crate) use small;
 /// name of its new file, and opened by these and the code of the one warrior. One that is looked at is read into memory first. The hill of
 /// the old format that is moved to a file that is made has three warriors. A line that is answered takes one growth, before anything is
 /// done. Texts grow from 8 bytes to 16, 32 and 64, load text from 4. For a hill with another seed, a device and a hill on it are made in
-/// memory, and its warrior is written as a source and submitted by 34 growths. The matches of a trial take 15 after its answer.
+/// memory, and its warrior is written as a source and submitted by 34 growths. The matches of a trial take 16 after its answer.
 static COMMANDS: [Command; 14] = commands! {
     1 + 10 + 5, 0, 0 => "koth asm", "MOV 0, 1\n" => "ORG 0\nMOV.I  $     0, $     1\nEND\n";
     11 + 11 + 4 + 1, 0, 0 => "koth fight growths.red growths.red --core=64 --cycles=100 --processes=8 --length=10 --distance=10 --rounds=2", ""
@@ -79,7 +79,7 @@ static COMMANDS: [Command; 14] = commands! {
     1 + 6 + 5, 0, 0 => "koth show growths.hill --settings", ""
         => "--core 64 --cycles 100 --processes 8 --length 10 --distance 10 --rounds 2 --capacity 2 --read-limit 0 --write-limit 0\n";
     1 + 6 + 1 + 1, 10, 0 => "koth try growths.hill growths.red", "" => PLACED;
-    1 + 6 + 1 + 1, 10, 15 => "koth try growths.hill growths.red --table", ""
+    1 + 6 + 1 + 1, 10, 16 => "koth try growths.hill growths.red --table", ""
         => "PLACED 2 2 2\nwon  lost  tied  points  warrior  author\n  0     0     2       2  Unnamed  Anonymous\n";
     1 + 6 + 1 + 2, 0, 0 => "koth copy growths.hill growing.hill --audit", "" => "COPIED\n";
     1 + 6 + 1 + 5 + 34 + 1 + 2, 0, 0 => "koth reseed growths.hill growing.hill --seed 8", "" => "RESEEDED\n";
