@@ -33,7 +33,7 @@ pub struct Reading<'l, 's> {
     pub title: &'s [u8],
     /// The tokens before the word of a statement; none if it has no word.
     pub front: &'l [Token<'s>],
-    /// The other tokens of a statement, from its word on; the tokens after the word of an assertion.
+    /// The other tokens of a statement, from its word on, of a `ROF` that word alone; the tokens after the word of an assertion.
     pub tokens: &'l [Token<'s>],
 }
 
