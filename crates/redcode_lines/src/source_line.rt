@@ -81,6 +81,7 @@ pub fn source_lines<'s, A: Allocator + Copy>(
     let mut lines = Vec::new(alloc);
     let mut rest = source;
     let mut number = first;
+    // Takes no step: each line is read once, before the walk.
     while !rest.is_empty() {
         let (line, behind) = first_line(rest);
         append_line(alloc, number, line, &mut lines)?;
@@ -155,6 +156,7 @@ fn statement_tokens<'s, A: Allocator + Copy>(
 fn before_comment(tokens: &[Token<'_>]) -> usize
     ensures { pieces (take result tokens.now) ≡ without_comment (pieces tokens.now) }
 {
+    // Takes no step: each token of the source is passed once, before the walk.
     for (i, token) in tokens.iter().enumerate() {
         if matches!(token.kind, TokenKind::Comment) {
             return i;
