@@ -12,6 +12,14 @@ abbrev pub address_of : LabelList → List ℕ → Option ℕ
 address_of [] name = None
 address_of (label ∷ labels) name = if bytes_eq name label.0 then Some label.1 else address_of labels name
 
+-- for each counter's name the indices of two blocks among the open ones: the first and the last of that name, or what is left of them
+pub record CounterPlaces : Type 0 where
+  pub firsts : LabelList
+  pub lasts : LabelList
+
+abbrev pub counter_places : LabelList → LabelList → CounterPlaces
+counter_places firsts lasts = record { firsts = firsts; lasts = lasts }
+
 -- the value of a name that is known before any source, on a line with `before` instructions before it; letter case counts
 abbrev pub predefined : RawSettings → ℕ → List ℕ → Option ℤ
 predefined s before name =
