@@ -115,6 +115,7 @@ fn all_said<A: Allocator + Copy>(
     ensures { Gives (λ all. all.items) result (all_said settings.now expanded.now.labels expanded.now.lines) }
 {
     let mut all = Vec::new(alloc);
+    // Takes no step: each of at most 4,096 lines that are written out took one when it was, and is judged once.
     for entry in expanded.entries() {
         let line = entry.line.source_line;
         match said_by(expanded, settings, entry) {
@@ -168,6 +169,7 @@ fn code_of<A: Allocator>(alloc: A, said: &[Said]) -> Result<Vec<Instr, A>, AsmFa
     ensures { Gives (λ code. code.items) result (Ok (code_of said.now)) }
 {
     let mut code = Vec::new(alloc);
+    // Takes no step: each line took one when it was written out.
     for (_, statement) in said {
         if let Statement::Instruction(instr) = statement {
             code.push(*instr)?;
@@ -183,6 +185,7 @@ fn start_of(said: &[Said], count: usize) -> Result<u16, AsmFault>
 {
     let mut org = None;
     let mut end = None;
+    // Takes no step: each line took one when it was written out.
     for (line, statement) in said {
         match statement {
             Statement::Org(value) => org = Some((*line, *value)),
@@ -203,6 +206,7 @@ fn start_of(said: &[Said], count: usize) -> Result<u16, AsmFault>
 fn check_assertions(said: &[Said]) -> Result<(), AsmFault>
     ensures { result ≡ all_hold said.now }
 {
+    // Takes no step: each line took one when it was written out.
     for (line, statement) in said {
         if matches!(statement, Statement::Assert(0)) {
             return Err(fault(*line, AsmKind::AssertFalse));
@@ -218,6 +222,7 @@ fn last_texts<'e, A: Allocator + Copy>(expanded: &'e Expanded<'_, A>) -> (&'e [u
 {
     let mut name: &[u8] = b"";
     let mut author: &[u8] = b"";
+    // Takes no step: each line took one when it was written out.
     for entry in expanded.entries() {
         match entry.line.kind {
             LineKind::Name => name = entry.title,

@@ -21,4 +21,4 @@ mod warriors;
 
 pub use blame::{Blame, blame_of};
 pub use redcode_scene::{Copied, Scene, copy_of, told_faults};
-pub use said::{Part, append_shown, say};
+pub use said::{Part, say};

@@ -1,6 +1,7 @@
 //! Sentences, put together from their parts.
 
 use itoa::Buffer;
+use redcode_lines::append_shown;
 use std::alloc::{AllocError, Allocator};
 
 /// A part of a sentence.
@@ -10,7 +11,7 @@ pub enum Part<'p> {
     Text(&'p str),
     /// A word of the source, which is put between backticks.
     Word(&'p [u8]),
-    /// Bytes of the source, as they are.
+    /// Bytes of the source, but for what a terminal acts upon.
     Bytes(&'p [u8]),
     Number(i64),
 }
@@ -41,21 +42,4 @@ fn quote<A: Allocator>(sentence: &mut Vec<u8, A>, word: &[u8]) -> Result<(), All
     append_shown(sentence, word)?;
     sentence.push(b'`')?;
     Ok(())
-}
-
-/// Appends a text with a question mark for each byte that a terminal would act upon.
-pub fn append_shown<A: Allocator>(shown: &mut Vec<u8, A>, text: &[u8]) -> Result<(), AllocError> {
-    for byte in text {
-        shown.push(shown_byte(*byte))?;
-    }
-    Ok(())
-}
-
-/// The byte, or a question mark for a control byte other than the tab.
-fn shown_byte(byte: u8) -> u8 {
-    if byte.is_ascii_control() && byte != b'\t' {
-        b'?'
-    } else {
-        byte
-    }
 }

@@ -144,6 +144,7 @@ fn behind_names<'t, 's>(tokens: &'t [Joined<'s>]) -> &'t [Joined<'s>]
     ensures behind { result.now ≡ dropped_while is_label tokens.entry.now }
     ensures short { length result.now ≤ length tokens.entry.now }
 {
+    // Paid by the steps of a line with an `&`, as `joined_tokens` is.
     for (i, joined) in tokens.iter().enumerate() {
         if !is_name(&joined.token) {
             return &tokens[i..];
@@ -168,6 +169,7 @@ fn joined_tokens<'s, A: Allocator + Copy>(
     let mut token = *first;
     let mut is_joined = false;
     let mut rest = behind;
+    // Paid by the steps of a line with an `&`: one for each token, for each block around it and for each 16 bytes of its names.
     while let [next, others @ ..] = rest {
         if counter.joins(&token, rest) {
             token = counter.joined_name(region, &token)?;
@@ -192,6 +194,7 @@ fn append_kept<'s, A: Allocator>(
     ensures { OnOk result (pieces out.new.items ≡ pieces out.old.items ++ kept tokens.now) }
 {
     for joined in tokens {
+        // Paid by the steps of a line with an `&`, as `joined_tokens` is.
         out.push(joined.token)?;
     }
     Ok(())
@@ -207,6 +210,7 @@ fn append_numbered<'s, A: Allocator + Copy>(
     ensures { OnOk result (pieces out.new.items ≡ pieces out.old.items ++ numbered counter.now tokens.now) }
 {
     for joined in tokens {
+        // Paid by the steps of a line with an `&`, as `joined_tokens` is.
         out.push(counter.number_or(region, joined)?)?;
     }
     Ok(())

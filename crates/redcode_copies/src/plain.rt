@@ -29,6 +29,7 @@ fn has_counter<C: Counters>(counters: &C, tokens: &[Token<'_>]) -> bool
     ensures { result ≡ has_number (C.counters counters.now) (pieces tokens.now) }
 {
     for token in tokens {
+        // Paid by the steps of a line that is walked over: one for each of its tokens, again for each block if an `&` is among them.
         if is_name(token) && counters.number_of(token.text).is_some() {
             return true;
         }
@@ -70,6 +71,7 @@ fn append_numbered<'s, A: Allocator, C: Counters>(
     ensures { OnOk result (pieces out.new.items ≡ pieces out.old.items ++ map (number_by (C.counters counters.now)) (pieces tokens.now)) }
 {
     for token in tokens {
+        // Paid as `has_counter` is: it reads the same tokens.
         out.push(numbered(region, counters, token)?)?;
     }
     Ok(())

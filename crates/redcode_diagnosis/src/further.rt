@@ -5,13 +5,17 @@ ghost use Rattle.{redcode_scene.specs.Faults.is_told, redcode_diagnosis.specs.{F
 
 use crate::diagnosis::{Diagnosis, is_memory, told};
 use bumpalo::Bump;
-use redcode_asm::assemble;
+use redcode_asm::warrior_from;
 use redcode_blame::{Scene, told_faults};
+use redcode_expand::{Expanded, Steps, expand_within};
 use std::alloc::{AllocError, Allocator};
 use war_types::{AsmFault, AsmKind, Settings};
 
-/// Most names that are defined twice and passed over, and lines beside them.
-const MOST: u32 = 100;
+/// Most names that are defined twice and passed over, and lines beside them. For each the source is written out once more.
+const MOST: u32 = 10;
+
+/// Steps that writing it out takes at most, all times together: as many as a service allows an assembly by default.
+const STEPS: u64 = 25_000;
 
 /// Most refusals in all.
 const MOST_TOLD: usize = 100;
@@ -32,7 +36,8 @@ pub(crate) fn is_twice(kind: AsmKind) -> bool
 }
 
 /// Puts the refusals of lines of a source in which a name is defined twice, after the one of that name, each line once: those that it has if
-/// such names are blanked out, one after the other. A line that is refused all the same is blanked out whole.
+/// such names are blanked out, one after the other. A line that is refused all the same is blanked out whole. It ends after ten names and
+/// lines, or once the steps are spent.
 pub(crate) fn put_further<A: Allocator + Copy>(
     alloc: A,
     source: &[u8],
@@ -43,18 +48,14 @@ pub(crate) fn put_further<A: Allocator + Copy>(
 {
     let mut text = Vec::new(alloc);
     text.extend_from_slice(source)?;
+    let mut steps = Steps::new(STEPS);
     let mut next = newest(all.as_slice());
     for _ in 0..MOST {
         let Some(place) = next else {
             return Ok(());
         };
         blank(text.as_mut_slice(), place);
-        let Err(first) = assemble(alloc, text.as_slice(), settings) else {
-            return Ok(());
-        };
-        let known = is_told(all.as_slice(), first.line);
-        put_round(alloc, source, text.as_slice(), settings, first, all)?;
-        next = next_place(all.as_slice(), first, known);
+        next = put_round(alloc, source, text.as_slice(), settings, &mut steps, all)?;
     }
     Ok(())
 }
@@ -115,38 +116,63 @@ fn blank(text: &mut [u8], place: Place) {
     }
 }
 
-/// Puts the refusals of a text whose lines are as long as those of the source, by places in these. The first is that of the assembler.
+/// Puts the refusals of a text whose lines are as long as those of the source, by places in these. The first is that of the assembler. The
+/// answer is what is blanked out next, if something is.
 fn put_round<A: Allocator + Copy>(
     alloc: A,
     source: &[u8],
     text: &[u8],
     settings: &Settings,
-    first: AsmFault,
+    steps: &mut Steps,
     all: &mut Vec<Diagnosis<A>, A>,
-) -> Result<(), AllocError>
+) -> Result<Option<Place>, AllocError>
     ensures { OnOk result (PutsFurther source.now all.old.items all.new.items) }
 {
-    if is_memory(first.kind) {
-        return Err(AllocError);
-    }
     let region = Bump::new(alloc);
-    put_within(alloc, &region, source, text, settings, first, all)
+    put_within(alloc, &region, source, text, settings, steps, all)
 }
 
-/// The same with this region for what is known of the text.
+/// The same with this region for what is written out. Nothing is put if the steps are spent.
 fn put_within<'s, A: Allocator + Copy>(
     alloc: A,
     region: &'s Bump<A>,
     source: &[u8],
     text: &'s [u8],
     settings: &'s Settings,
-    first: AsmFault,
+    steps: &mut Steps,
     all: &mut Vec<Diagnosis<A>, A>,
-) -> Result<(), AllocError>
+) -> Result<Option<Place>, AllocError>
     ensures { OnOk result (PutsFurther source.now all.old.items all.new.items) }
 {
-    let scene = Scene::new(alloc, region, text, settings)?;
-    put_from(&scene, source, first, all)
+    match expand_within(alloc, region, text, settings, steps) {
+        Ok(expanded) => match warrior_from(alloc, &expanded, settings) {
+            Ok(_) => Ok(None),
+            Err(first) => put_refused(alloc, source, text, settings, Some(expanded), first, all),
+        },
+        Err(_) if steps.are_spent() => Ok(None),
+        Err(first) => put_refused(alloc, source, text, settings, None, first, all),
+    }
+}
+
+/// The same for a text that is refused, with its lines written out.
+fn put_refused<'s, A: Allocator + Copy>(
+    alloc: A,
+    source: &[u8],
+    text: &'s [u8],
+    settings: &'s Settings,
+    expanded: Option<Expanded<'s, A>>,
+    first: AsmFault,
+    all: &mut Vec<Diagnosis<A>, A>,
+) -> Result<Option<Place>, AllocError>
+    ensures { OnOk result (PutsFurther source.now all.old.items all.new.items) }
+{
+    if is_memory(first.kind) {
+        return Err(AllocError);
+    }
+    let known = is_told(all.as_slice(), first.line);
+    let scene = Scene::of(alloc, text, settings, expanded)?;
+    put_from(&scene, source, first, all)?;
+    Ok(next_place(all.as_slice(), first, known))
 }
 
 fn put_from<A: Allocator + Copy>(

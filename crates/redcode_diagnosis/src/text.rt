@@ -5,17 +5,18 @@ ghost use Rattle.redcode_diagnosis.specs.Text.{Begins, heading, numbered, said_h
 
 use crate::diagnosis::Diagnosis;
 use itoa::Buffer;
-use redcode_blame::{Copied, Part, append_shown, say};
-use redcode_lines::{Span, line_text, part_of};
+use redcode_blame::{Copied, Part, say};
+use redcode_lines::{Span, append_shown, line_text, part_of};
 use redcode_warnings::Warning;
 use std::alloc::{AllocError, Allocator};
 
 /// Places for the number of a line.
 const NUMBER_PLACES: usize = 5;
 
-/// A refusal of a source as text: `PATH:LINE:COLUMN: Kind: sentence`, with line 1 if the source as a whole is to blame. If a line is to blame, its text follows, with a caret under each byte
-/// to blame; if that line stands in a block, so does how it reads in the copy that is refused. Each line ends with a line feed. Control bytes
-/// other than the tab are shown as question marks, but the path as it is. It fails when memory runs out.
+/// A refusal of a source as text: `PATH:LINE:COLUMN: Kind: sentence`, with line 1 if the source as a whole is to blame. If a line is to
+/// blame, its text follows, with a caret under each character to blame; if that line stands in a block, so does how it reads in the copy
+/// that is refused. Each line ends with a line feed. A question mark is shown for each character that a terminal acts upon, but for the
+/// tab; the path is shown as it is. It fails when memory runs out.
 pub fn text_of<A: Allocator + Copy>(
     alloc: A,
     path: &[u8],

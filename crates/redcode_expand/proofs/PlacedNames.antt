@@ -3,7 +3,8 @@ use Rattle.std.proofs.Common.{◌≡◌, ℕ, zero, suc, ◌<◌, ◌≤◌, Boo
 use Rattle.std.proofs.{Common.{inr, ◌⊎◌, arith, ◌+◌, ◌-◌, ◌&&◌, MatchOption, reverse, take, drop}, lemmas.Bool.{cases_Bool, or_parts}, lemmas.Slice.Eq.bytes_eq-Decides}
 use Rattle.{std.specs.{Bool.⊤, Option.{is_some, option_map}, Str.bytes_eq}, indexmap.specs.IndexMap.insert_entry, std.proofs.{lemmas.Grind.common_steps, lemmas.List.{reverse-append, drop-drop, drop_more, get_or-drop, get_or-take, length-drop, take_more, map-append}}}
 use Rattle.{redcode_text.specs.{declared.token.Token.Token, Tokens.{piece_of, pieces}}, redcode_lines.specs.Line.is_name_token}
-use Rattle.{redcode_copies.specs.Plain.{has_join, is_numbered}, redcode_lines.specs.Line.has_text, std.proofs.Common.codes, redcode_expand.specs.Rest.{OpenBlock, ArePlaced, counters_in, place_in, counters_of}}
+use Rattle.{redcode_copies.specs.Plain.{has_join, is_numbered}, redcode_lines.specs.Line.has_text, std.proofs.Common.codes, redcode_expand.specs.Rest.{OpenBlock, AreFirst, AreLast, ArePlaced, counters_in, place_in, counters_of}}
+use Rattle.{std.specs.Cmp.Lexicographic.bytes_decides, std.proofs.Common.length-append, redcode_names.specs.Name.{CounterPlaces, counter_places}}
 use Rattle.redcode_expand.proofs.Words.{number_of, LabelList, address_of, Piece, SourceLine, is_name, Counter, in_copy, in_copies}
 
 pub None≢Some : {X : Type 0} (x : X) (o : Option X) → o ≡ None → o ≡ Some x → ⊥
@@ -55,21 +56,21 @@ some-is (b ∷ bs) name d (suc p) within is none = grind (arith, some-is bs name
 option-cases : {X : Type 0} (o : Option X) (G : Type 0) → (o ≡ None → G) → ((x : X) → o ≡ Some x → G) → G
 option-cases o G h1 h2 = grind arith
 
-pub place-none : (places : LabelList) (bs : List OpenBlock) (name : List ℕ) → ArePlaced places bs → address_of places name ≡ None → place_in bs name ≡ None
+pub place-none : (places : LabelList) (bs : List OpenBlock) (name : List ℕ) → AreFirst places bs → address_of places name ≡ None → place_in bs name ≡ None
 place-none places bs name placed none =
     option-cases (place_in bs name) (place_in bs name ≡ None) (λ is. is) (λ q there. absurd (None≢Some q (address_of places name) none (placed name q there)))
 
-pub place-past : (places : LabelList) (bs : List OpenBlock) (name : List ℕ) (p : ℕ) → ArePlaced places bs → address_of places name ≡ Some p → length bs ≤ p → place_in bs name ≡ None
+pub place-past : (places : LabelList) (bs : List OpenBlock) (name : List ℕ) (p : ℕ) → AreFirst places bs → address_of places name ≡ Some p → length bs ≤ p → place_in bs name ≡ None
 place-past places [] name p placed is past = refl
 place-past places (b ∷ bs) name p placed is past =
     option-cases (place_in (b ∷ bs) name) (place_in (b ∷ bs) name ≡ None) (λ none. none)
     (λ q there. absurd (omega (arith, past, (first-is (b ∷ bs) name b q there).0, same-some q p (address_of places name) (placed name q there) is)))
 
-pub place-other : (places : LabelList) (bs : List OpenBlock) (name : List ℕ) (d : OpenBlock) (p : ℕ) → ArePlaced places bs → address_of places name ≡ Some p
+pub place-other : (places : LabelList) (bs : List OpenBlock) (name : List ℕ) (d : OpenBlock) (p : ℕ) → AreFirst places bs → address_of places name ≡ Some p
     → bytes_eq name (get_or bs p d).counter.name ≡ false → place_in bs name ≡ None
 place-other places bs name d p h1 h2 h3 = grind (arith, same-some, first-is)
 
-pub place-there : (places : LabelList) (bs : List OpenBlock) (name : List ℕ) (d : OpenBlock) (p : ℕ) → ArePlaced places bs → address_of places name ≡ Some p → p < length bs
+pub place-there : (places : LabelList) (bs : List OpenBlock) (name : List ℕ) (d : OpenBlock) (p : ℕ) → AreFirst places bs → address_of places name ≡ Some p → p < length bs
     → bytes_eq name (get_or bs p d).counter.name ≡ true → place_in bs name ≡ Some p
 place-there places bs name d p placed is within named =
     option-cases (place_in bs name) (place_in bs name ≡ Some p) (λ none. absurd (some-is bs name d p within named none))
@@ -200,15 +201,15 @@ place-front [] others name p is = cc
 place-front (b ∷ bs) others name p is = grind (arith, place-front bs others name)
 
 -- the last block was left
-pub placed-front : (places : LabelList) (bs others : List OpenBlock) → ArePlaced places (bs ++ others) → ArePlaced places bs
+pub placed-front : (places : LabelList) (bs others : List OpenBlock) → AreFirst places (bs ++ others) → AreFirst places bs
 placed-front places bs others placed = λ name p is. placed name p (place-front bs others name p is)
 
 place-last : (bs : List OpenBlock) (b : OpenBlock) (name : List ℕ) → place_in bs name ≡ None → place_in (bs ++ b ∷ []) name ≡ (if bytes_eq name b.counter.name then Some (length bs) else None)
 place-last [] b name none = refl
 place-last (x ∷ bs) b name none = grind (arith, place-last bs b name)
 
-pub placed-behind : (places : LabelList) (bs : List OpenBlock) (b : OpenBlock) → ArePlaced places bs
-    → (place_in bs b.counter.name ≡ None → address_of places b.counter.name ≡ Some (length bs)) → ArePlaced places (bs ++ b ∷ [])
+pub placed-behind : (places : LabelList) (bs : List OpenBlock) (b : OpenBlock) → AreFirst places bs
+    → (place_in bs b.counter.name ≡ None → address_of places b.counter.name ≡ Some (length bs)) → AreFirst places (bs ++ b ∷ [])
 placed-behind places bs b h1 h2 = grind (arith, bytes_eq-Decides, place-last, None≢Some, place-front)
 
 -- ---- a place that is written
@@ -231,7 +232,7 @@ address-inserted (e ∷ es) k place name =
     (written-by (bytes_eq k e.0) e es (insert_entry bytes_eq es k place) k place name (address-inserted es k place name))
 
 -- a name that no block's counter has may get any place
-pub placed-set : (places : LabelList) (bs : List OpenBlock) (k : List ℕ) (place : ℕ) → ArePlaced places bs → place_in bs k ≡ None → ArePlaced (insert_entry bytes_eq places k place) bs
+pub placed-set : (places : LabelList) (bs : List OpenBlock) (k : List ℕ) (place : ℕ) → AreFirst places bs → place_in bs k ≡ None → AreFirst (insert_entry bytes_eq places k place) bs
 placed-set places bs k place h1 h2 = grind (arith, bytes_eq-Decides, None≢Some, address-inserted)
 
 -- which is its place from then on
@@ -241,6 +242,83 @@ placed-next places k place = grind (arith, address-inserted, bytes_eq-Decides)
 -- a place from an index on
 pub place-within : (bs : List OpenBlock) (from : ℕ) (name : List ℕ) (p : ℕ) → place_in (drop from bs) name ≡ Some p → from + p < length bs
 place-within bs from name p is = omega (arith, placed-within (drop from bs) name p is, length-drop from bs)
+
+-- ---- the last block of a name
+
+-- a block that is no longer there had the name, or none has it
+none-front : (k : ℕ) (bs others : List OpenBlock) (name : List ℕ) → place_in (drop k (bs ++ others)) name ≡ None → place_in (drop k bs) name ≡ None
+none-front zero bs others name none =
+    option-cases (place_in bs name) (place_in bs name ≡ None) (λ is. is) (λ p there. absurd (None≢Some p (place_in (bs ++ others) name) none (place-front bs others name p there)))
+none-front (suc k) [] others name none = refl
+none-front (suc k) (b ∷ bs) others name none = none-front k bs others name none
+
+none-behind : (k : ℕ) (bs : List OpenBlock) (b : OpenBlock) (name : List ℕ) → place_in (drop k bs) name ≡ None → bytes_eq name b.counter.name ≡ false
+    → place_in (drop k (bs ++ b ∷ [])) name ≡ None
+none-behind zero bs b name none other = place-last bs b name none ∙ ap (λ (t : Bool). if t then Some (length bs) else None) other
+none-behind (suc zero) [] b name none other = refl
+none-behind (suc (suc k)) [] b name none other = refl
+none-behind (suc k) (x ∷ bs) b name none other = none-behind k bs b name none other
+
+past-all : (bs : List OpenBlock) (k : ℕ) (name : List ℕ) → length bs ≤ k → place_in (drop k bs) name ≡ None
+past-all [] zero name past = refl
+past-all [] (suc k) name past = refl
+past-all (b ∷ bs) zero name past = absurd (omega (arith, past))
+past-all (b ∷ bs) (suc k) name past = past-all bs k name (omega (arith, past))
+
+-- the last block was left
+last-front : (lasts : LabelList) (bs others : List OpenBlock) → AreLast lasts (bs ++ others) → AreLast lasts bs
+last-front lasts bs others placed = λ name last is. none-front (last + 1) bs others name (placed name last is)
+
+-- one block more, whose name has its index
+last-behind : (lasts : LabelList) (bs : List OpenBlock) (b : OpenBlock) → AreLast lasts bs → address_of lasts b.counter.name ≡ Some (length bs) → AreLast lasts (bs ++ b ∷ [])
+last-behind lasts bs b placed next = λ name last is.
+    elim (cases_Bool (bytes_eq name b.counter.name)) [
+      | inl same ↦
+          let e : name ≡ b.counter.name = (bytes_decides name b.counter.name).0 same in
+          let at : last ≡ length bs = same-some last (length bs) (address_of lasts b.counter.name) (ap (address_of lasts) (sym e) ∙ is) next in
+          past-all (bs ++ b ∷ []) (last + 1) name (omega (arith, at, length-append bs (b ∷ [])))
+      | inr other ↦ none-behind (last + 1) bs b name (placed name last is) other
+    ]
+
+-- a name may get the index after all blocks
+last-set : (lasts : LabelList) (bs : List OpenBlock) (k : List ℕ) → AreLast lasts bs → AreLast (insert_entry bytes_eq lasts k (length bs)) bs
+last-set lasts bs k placed = λ name last is.
+    let written : (if bytes_eq name k then Some (length bs) else address_of lasts name) ≡ Some last = sym (address-inserted lasts k (length bs) name) ∙ is in
+    elim (cases_Bool (bytes_eq name k)) [
+      | inl same ↦
+          let at : length bs ≡ last = same-some (length bs) last _ refl (sym (ap (λ (t : Bool). if t then Some (length bs) else address_of lasts name) same) ∙ written) in
+          past-all bs (last + 1) name (omega (arith, at))
+      | inr other ↦ placed name last (sym (ap (λ (t : Bool). if t then Some (length bs) else address_of lasts name) other) ∙ written)
+    ]
+
+-- none from an index on that is past the last
+pub none-past : (lasts : LabelList) (bs : List OpenBlock) (name : List ℕ) (last from : ℕ) → AreLast lasts bs → address_of lasts name ≡ Some last → last < from
+    → place_in (drop from bs) name ≡ None
+none-past lasts bs name last from placed is past =
+    let gap = from - (last + 1) in
+    let e : last + 1 + gap ≡ from = omega (arith, past) in
+    sym (ap (λ (k : ℕ). place_in (drop k bs) name) e) ∙ sym (ap (λ (xs : List OpenBlock). place_in xs name) (drop-drop gap (last + 1) bs))
+    ∙ none-drop gap (drop (last + 1) bs) name (placed name last is)
+
+-- ---- both
+
+pub both-front : (places : CounterPlaces) (bs others : List OpenBlock) → ArePlaced places (bs ++ others) → ArePlaced places bs
+both-front places bs others placed =
+    record { firsts = placed-front places.firsts bs others placed.firsts; lasts = last-front places.lasts bs others placed.lasts }
+
+pub both-behind : (places : CounterPlaces) (bs : List OpenBlock) (b : OpenBlock) → ArePlaced places bs
+    → (place_in bs b.counter.name ≡ None → address_of places.firsts b.counter.name ≡ Some (length bs)) → address_of places.lasts b.counter.name ≡ Some (length bs)
+    → ArePlaced places (bs ++ b ∷ [])
+both-behind places bs b placed first last =
+    record { firsts = placed-behind places.firsts bs b placed.firsts first; lasts = last-behind places.lasts bs b placed.lasts last }
+
+pub first-set : (places : CounterPlaces) (bs : List OpenBlock) (k : List ℕ) (place : ℕ) → ArePlaced places bs → place_in bs k ≡ None
+    → ArePlaced (counter_places (insert_entry bytes_eq places.firsts k place) places.lasts) bs
+first-set places bs k place placed none = record { firsts = placed-set places.firsts bs k place placed.firsts none; lasts = placed.lasts }
+
+pub both-set : (places : CounterPlaces) (bs : List OpenBlock) (k : List ℕ) → ArePlaced places bs
+    → ArePlaced (counter_places places.firsts (insert_entry bytes_eq places.lasts k (length bs))) bs
+both-set places bs k placed = record { firsts = placed.firsts; lasts = last-set places.lasts bs k placed.lasts }
 
 -- ---- counters
 

@@ -2,7 +2,7 @@
 use Rattle.std.specs.Prelude.{◌≡◌, ℕ, suc, ◌+◌, ◌-◌, ◌*◌, ◌<◌, false, IsTrue, nat_eq, if◌then◌else◌, List, [], ◌∷◌, ◌++◌, length, drop, ⊤, Option, Some, None, Result, Ok, Err}
 use Rattle.{std.specs.{Option.option_map, Str.bytes_eq}, war_types.specs.{declared.fault.AsmFault.AsmFault, declared.settings.RawSettings.RawSettings}}
 use Rattle.{redcode_lines.specs.{Line.SourceLine, Block.{Blocks, Parsed, parsed}}, redcode_copies.specs.Counter.{Counter, counter_of}}
-use Rattle.{redcode_names.specs.{Gives.{◌>>=◌, Fails}, Name.{LabelList, address_of}}, redcode_expand.specs.{Cut.with_cut, Walk.{WalkState, walk, copies, copied, closed, unmatched, until_end}}}
+use Rattle.{redcode_names.specs.{Gives.{◌>>=◌, Fails}, Name.{CounterPlaces, LabelList, address_of}}, redcode_expand.specs.{Cut.with_cut, Walk.{WalkState, walk, copies, copied, closed, unmatched, until_end}}}
 
 -- a block whose copies are being written
 pub record OpenBlock : Type 0 where
@@ -80,5 +80,14 @@ place_in [] name = None
 place_in (b ∷ bs) name = if bytes_eq name b.counter.name then Some 0 else option_map (λ place. suc place) (place_in bs name)
 
 -- each counter's name has the index of the first block that has it, the outermost block being the first
-abbrev pub ArePlaced : LabelList → List OpenBlock → Type 0
-ArePlaced places bs = (name : List ℕ) → (place : ℕ) → place_in bs name ≡ Some place → address_of places name ≡ Some place
+abbrev pub AreFirst : LabelList → List OpenBlock → Type 0
+AreFirst firsts bs = (name : List ℕ) → (place : ℕ) → place_in bs name ≡ Some place → address_of firsts name ≡ Some place
+
+-- no block after the index that a name has is of that name
+abbrev pub AreLast : LabelList → List OpenBlock → Type 0
+AreLast lasts bs = (name : List ℕ) → (last : ℕ) → address_of lasts name ≡ Some last → place_in (drop (last + 1) bs) name ≡ None
+
+-- both
+pub record ArePlaced (places : CounterPlaces) (bs : List OpenBlock) : Type 0 where
+  pub firsts : AreFirst places.firsts bs
+  pub lasts : AreLast places.lasts bs

@@ -23,7 +23,7 @@ pub(crate) struct OpenBlocks<'s, A: Allocator + Copy> {
     alloc: A,
     region: &'s Bump<A>,
     blocks: Vec<OpenBlock<'s>, A>,
-    /// For each counter's name the index of the outermost block that has it.
+    /// For each counter's name the index of the outermost block that has it, and one that no block of the name is behind.
     names: CounterNames<'s, A>,
 }
 
@@ -221,10 +221,13 @@ fn place_from<A: Allocator + Copy>(
     ensures { result ≡ place_in (drop from blocks.now) name.now }
 {
     let place = place_of(names, blocks, name)?;
-    if place < from {
-        return place_among(&blocks[from..], name);
+    if place >= from {
+        return Some(place - from);
     }
-    Some(place - from)
+    match names.last_of(name) {
+        Some(last) if last < from => None,
+        _ => place_among(&blocks[from..], name),
+    }
 }
 
 /// The index of the first block of this name.
@@ -239,7 +242,7 @@ fn place_of<A: Allocator + Copy>(
     if blocks.len() <= FEW {
         return place_among(blocks, name);
     }
-    let place = names.place_of(name)?;
+    let place = names.first_of(name)?;
     if place >= blocks.len() {
         return None;
     }
@@ -263,7 +266,7 @@ fn place_among(blocks: &[OpenBlock<'_>], name: &[u8]) -> Option<usize>
     None
 }
 
-/// Gives a name the index of the next block, if no counter of these blocks has it.
+/// Gives a name the index of the next block: as its innermost, and as its outermost if no counter of these blocks has it.
 fn place_next<'s, A: Allocator + Copy>(
     names: &mut CounterNames<'s, A>,
     blocks: &[OpenBlock<'s>],
@@ -271,10 +274,26 @@ fn place_next<'s, A: Allocator + Copy>(
 ) -> Result<(), AllocError>
     requires { ArePlaced names.old blocks.now }
     ensures placed { ArePlaced names.new blocks.now }
-    ensures next { OnOk result (place_in blocks.now name.entry.now ≡ None → address_of names.new name.entry.now ≡ Some (length blocks.now)) }
+    ensures first { OnOk result (place_in blocks.now name.entry.now ≡ None → address_of names.new.firsts name.entry.now ≡ Some (length blocks.now)) }
+    ensures last { OnOk result (address_of names.new.lasts name.entry.now ≡ Some (length blocks.now)) }
+{
+    first_next(names, blocks, name)?;
+    names.set_last(name, blocks.len())?;
+    Ok(())
+}
+
+/// Gives a name the index of the next block as its outermost, if no counter of these blocks has it.
+fn first_next<'s, A: Allocator + Copy>(
+    names: &mut CounterNames<'s, A>,
+    blocks: &[OpenBlock<'s>],
+    name: &'s [u8],
+) -> Result<(), AllocError>
+    requires { ArePlaced names.old blocks.now }
+    ensures placed { ArePlaced names.new blocks.now }
+    ensures first { OnOk result (place_in blocks.now name.entry.now ≡ None → address_of names.new.firsts name.entry.now ≡ Some (length blocks.now)) }
 {
     if place_of(names, blocks, name).is_none() {
-        names.set(name, blocks.len())?;
+        names.set_first(name, blocks.len())?;
     }
     Ok(())
 }

@@ -42,6 +42,7 @@ impl<'s, A: Allocator + Copy> Equs<'s, A> {
         ensures { result ≡ has_equ self.now (pieces tokens.now) }
     {
         for token in tokens {
+            // Paid by the steps of the tokens of a `FOR` that is walked over; no step at the end, when each line's operands are asked once.
             if !self.body_at(token).is_empty() {
                 return true;
             }

@@ -84,6 +84,7 @@ impl<'s, A: Allocator + Copy> Names<'s, A> {
         ensures { Gives (λ _. self.new) result (all_defined settings.now number address (names_among (pieces labels.now)) self.old) }
     {
         for label in labels {
+            // Paid by the steps of a line that is walked over: one for each of its tokens.
             if is_name(label) {
                 self.define(settings, number, address, label.text)?;
             }
@@ -102,6 +103,7 @@ impl<'s, A: Allocator + Copy> Names<'s, A> {
         ensures { Gives (λ name. (self.new, option_map (λ text. text.now) name)) result (but_last settings.now number address (names_among (pieces labels.now)) self.old) }
     {
         let mut name = None;
+        // Paid by the steps of a line that is walked over: one for each of its tokens.
         for label in labels {
             if !is_name(label) {
                 continue;
@@ -181,6 +183,7 @@ fn has_word(tokens: &[Token<'_>]) -> bool
     ensures { result ≡ has_word (pieces tokens.now) }
 {
     for token in tokens {
+        // Paid by the steps of a line that is walked over: one for each of its tokens.
         if word_at(token).is_some() {
             return true;
         }

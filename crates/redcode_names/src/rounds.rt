@@ -94,6 +94,7 @@ fn has_name(tokens: &[Token<'_>]) -> bool
     ensures { result ≡ has_name (pieces tokens.now) }
 {
     for token in tokens {
+        // Paid by `work` for the body's name, and for each of its tokens if one is a name; a body keeps 513 tokens at most.
         if is_name(token) {
             return true;
         }
@@ -112,6 +113,7 @@ fn append<'s, A: Allocator>(
     ensures { Gives (λ _. pieces out.new.items) result (appended line (pieces out.old.items) (pieces tokens.now)) }
 {
     let mut steps = *work;
+    // Counts in `work` what it appends.
     for token in tokens {
         steps = steps.saturating_add(work_of(token));
     }

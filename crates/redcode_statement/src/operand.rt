@@ -42,6 +42,7 @@ pub(crate) fn at_comma<'t, 'l>(
     ensures before { pieces result.0.now ≡ before_comma (pieces tokens.entry.now) }
     ensures behind { tokens_seen result.1 ≡ behind_comma (pieces tokens.entry.now) }
 {
+    // Takes no step: each line that is written out is judged once, and has 512 tokens of operands at most.
     for (i, token) in tokens.iter().enumerate() {
         if has_text(token, b",") {
             return (&tokens[..i], Some(&tokens[i + 1..]));

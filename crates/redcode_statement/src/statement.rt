@@ -27,6 +27,7 @@ pub fn has_bad_token(tokens: &[Token<'_>]) -> bool
     ensures { result ≡ list_any is_bad (pieces tokens.now) }
 {
     for token in tokens {
+        // Takes no step: each line that is written out is judged once, and has 4 tokens and 513 others at most.
         if matches!(token.kind, TokenKind::Bad) {
             return true;
         }

@@ -1,13 +1,11 @@
-use Rattle.{std.proofs.{lemmas.Grind.common_steps, Common.{◌≡◌, None, arith, sym, subst}}, redcode_names.specs.Name.LabelList, redcode_expand.specs.Rest.{ArePlaced, place_in}}
-use Rattle.redcode_expand.proofs.PlacedNames.{placed-set, placed-next}
+use Rattle.{std.proofs.{lemmas.Grind.common_steps, Common.{arith, sym, subst}}, redcode_names.specs.Name.CounterPlaces, redcode_expand.specs.Rest.ArePlaced}
+use Rattle.redcode_expand.proofs.PlacedNames.{both-set, placed-next}
 use Rattle.redcode_expand.proofs.open_blocks.place_next.Goals as goal
 
-pub returns-in_ok-set-clause-placed : goal.returns-in_ok-set-clause-placed
-returns-in_ok-set-clause-placed g c =
+pub returns-clause-placed : goal.returns-clause-placed
+returns-clause-placed g c =
     let blocks = c.args.blocks.now in
-    let name = c.args.name.now in
-    let none : place_in blocks name ≡ None = grind (arith, common_steps) in
-    subst (λ (ls : LabelList). ArePlaced ls blocks) (sym c.in_ok-set.ensures.set) (placed-set c.args.names.now blocks name _ c.requires none)
+    subst (λ (ps : CounterPlaces). ArePlaced ps blocks) (sym c.in_ok-set_last.ensures.set) (both-set c.first_next.new.names blocks c.args.name.now c.first_next.ensures.placed)
 
-pub returns-in_ok-set-clause-next : goal.returns-in_ok-set-clause-next
-returns-in_ok-set-clause-next g c = grind (arith, common_steps, placed-next)
+pub returns-clause-last : goal.returns-clause-last
+returns-clause-last g c = grind (arith, common_steps, placed-next)
