@@ -6,7 +6,7 @@ pub loop-init : goal.loop-init
 loop-init g c = nothing _ _
 
 pub loop-preserved : goal.loop-preserved
-loop-preserved g c = after _ _ _ _ c.loop.invariant c.in_ok-put_round.ensures
+loop-preserved g c = after _ _ _ _ c.loop.invariant c.in_ok-next.ensures
 
 pub returns-in_default : goal.returns-in_default
 returns-in_default g c = c.loop.invariant
