@@ -1,5 +1,5 @@
 -- What a careful device has done with its file.
-use Rattle.std.specs.Prelude.{◌≡◌, ◌⊎◌, ⊤, ℕ, ◌-◌, ◌^◌, ◌<◌, ◌≤◌, ◌==◌, if◌then◌else◌, Bool, false, List, [], ◌∷◌, ◌++◌, Result, IsOk, IsErr, MatchResult}
+use Rattle.std.specs.Prelude.{◌≡◌, ◌⊎◌, ⊤, ℕ, ◌-◌, ◌^◌, ◌<◌, ◌≤◌, ◌==◌, if◌then◌else◌, Bool, true, false, List, [], ◌∷◌, ◌++◌, Result, IsOk, IsErr, MatchResult}
 use Rattle.sector_disk.specs.{Facts.DeviceFacts, File.untold}
 use Rattle.hill_file.specs.{declared.careful_device.CarefulDevice.CarefulDevice, declared.sector_file.Headers.Headers, Done.Done}
 
@@ -27,6 +27,7 @@ remembered start (Done.Wrote n content ∷ log) = headers_after n content (remem
 remembered start (Done.Tried n content ∷ log) = remembered start log
 remembered start (Done.Synced ∷ log) = remembered start log
 remembered start (Done.Unsynced ∷ log) = remembered start log
+remembered start (Done.Named ∷ log) = remembered start log
 
 -- the last thing that was done is a look that found the headers as they are remembered
 abbrev pub FoundSame : Opening → List Done → Type 0
@@ -37,6 +38,7 @@ FoundSame start (Done.Wrote n content ∷ log) = ⊥
 FoundSame start (Done.Tried n content ∷ log) = ⊥
 FoundSame start (Done.Synced ∷ log) = ⊥
 FoundSame start (Done.Unsynced ∷ log) = ⊥
+FoundSame start (Done.Named ∷ log) = ⊥
 
 -- No sector was written, nor was that tried, but right after a look that found the headers as they are remembered.
 abbrev pub IsCareful : Opening → List Done → Type 0
@@ -47,6 +49,7 @@ IsCareful start (Done.Wrote n content ∷ log) = FoundSame start log × IsCarefu
 IsCareful start (Done.Tried n content ∷ log) = FoundSame start log × IsCareful start log
 IsCareful start (Done.Synced ∷ log) = IsCareful start log
 IsCareful start (Done.Unsynced ∷ log) = IsCareful start log
+IsCareful start (Done.Named ∷ log) = IsCareful start log
 
 -- this sector was written since the last sync that failed, and since the device was opened
 abbrev pub WasWritten : ℕ → List Done → Type 0
@@ -57,6 +60,7 @@ WasWritten k (Done.Wrote n content ∷ log) = (n ≡ k) ⊎ WasWritten k log
 WasWritten k (Done.Tried n content ∷ log) = WasWritten k log
 WasWritten k (Done.Synced ∷ log) = WasWritten k log
 WasWritten k (Done.Unsynced ∷ log) = ⊥
+WasWritten k (Done.Named ∷ log) = WasWritten k log
 
 -- each sector was
 abbrev pub EachWasWritten : ℕ → List Done → Type 0
@@ -72,15 +76,28 @@ IsSure start sectors (Done.Wrote n content ∷ log) = IsSure start sectors log
 IsSure start sectors (Done.Tried n content ∷ log) = IsSure start sectors log
 IsSure start sectors (Done.Synced ∷ log) = IsSure start sectors log ⊎ EachWasWritten sectors log
 IsSure start sectors (Done.Unsynced ∷ log) = ⊥
+IsSure start sectors (Done.Named ∷ log) = IsSure start sectors log
+
+-- The file's name has reached the disk: it was synced since the device was opened, or that was without doubt.
+abbrev pub IsNamed : Opening → List Done → Type 0
+IsNamed start [] = start.doubt ≡ false
+IsNamed start (Done.Looked headers ∷ log) = IsNamed start log
+IsNamed start (Done.Read n content ∷ log) = IsNamed start log
+IsNamed start (Done.Wrote n content ∷ log) = IsNamed start log
+IsNamed start (Done.Tried n content ∷ log) = IsNamed start log
+IsNamed start (Done.Synced ∷ log) = IsNamed start log
+IsNamed start (Done.Unsynced ∷ log) = IsNamed start log
+IsNamed start (Done.Named ∷ log) = ⊤
 
 -- What a device has done since it was opened: this is true of its file, it knows the headers as they are remembered, it
--- was careful, and it is in doubt unless its syncs may be believed.
+-- was careful, it is in doubt unless its syncs may be believed, and it takes the name for synced only if it is.
 pub record HasDone {F : Type 0} (happened : F → List Done → Type 0) (start : Opening) (device : CarefulDevice F)
     (log : List Done) : Type 0 where
   pub history : happened device.file log
   pub known : device.known ≡ remembered start log
   pub careful : IsCareful start log
   pub sure : device.doubt ≡ false → IsSure start device.sectors log
+  pub named : device.named ≡ true → IsNamed start log
 
 -- What a call of a device has done: something that is so, whatever was done before.
 abbrev pub Goes : {F : Type 0} → (F → List Done → Type 0) → (Opening → List Done → List Done → Type 0)
@@ -121,6 +138,7 @@ IsAsRead (Done.Wrote n content ∷ done) = FollowsRead n content done × IsAsRea
 IsAsRead (Done.Tried n content ∷ done) = FollowsRead n content done × IsAsRead done
 IsAsRead (Done.Synced ∷ done) = IsAsRead done
 IsAsRead (Done.Unsynced ∷ done) = IsAsRead done
+IsAsRead (Done.Named ∷ done) = IsAsRead done
 
 -- What was done ends with a sync that may be believed, and a look that found the headers as they are remembered.
 abbrev pub EndsSynced : ℕ → Opening → List Done → Type 0
@@ -128,10 +146,27 @@ EndsSynced sectors start (Done.Looked headers ∷ Done.Synced ∷ log) =
     (headers ≡ remembered start log) × IsSure start sectors (Done.Synced ∷ log)
 EndsSynced sectors start log = ⊥
 
--- what a sync has done: it wrote nothing but what it read, and if it is answered `Ok`, it ends as it should
+-- nothing was written, nor was that tried
+abbrev pub WritesNone : List Done → Type 0
+WritesNone [] = ⊤
+WritesNone (Done.Looked headers ∷ done) = WritesNone done
+WritesNone (Done.Read n content ∷ done) = WritesNone done
+WritesNone (Done.Wrote n content ∷ done) = ⊥
+WritesNone (Done.Tried n content ∷ done) = ⊥
+WritesNone (Done.Synced ∷ done) = WritesNone done
+WritesNone (Done.Unsynced ∷ done) = WritesNone done
+WritesNone (Done.Named ∷ done) = WritesNone done
+
+-- the file's name was synced, or nothing was done
+abbrev pub IsNaming : Opening → List Done → List Done → Type 0
+IsNaming start log done = (done ≡ []) ⊎ (done ≡ Done.Named ∷ [])
+
+-- What a sync has done: it wrote nothing but what it read. If it is answered `Ok`, it ends as it should, and the file's
+-- name has reached the disk.
 abbrev pub IsSync : {T E : Type 0} → ℕ → Result T E → Opening → List Done → List Done → Type 0
 IsSync sectors result start log done =
-    IsAsRead done × MatchResult result (λ _. EndsSynced sectors start (done ++ log)) (λ _. ⊤)
+    IsAsRead done
+    × MatchResult result (λ _. EndsSynced sectors start (done ++ log) × IsNamed start (done ++ log)) (λ _. ⊤)
 
 -- what the sync of the file has done, if the device had no doubt or wrote each sector before
 abbrev pub Settles : {F T E : Type 0} → (F → List Done → Type 0) → Result T E

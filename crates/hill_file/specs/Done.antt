@@ -3,7 +3,7 @@ use Rattle.std.specs.Prelude.{ℕ, List, ◌∷◌, Result, MatchResult}
 use Rattle.hill_file.specs.declared.sector_file.Headers.{Headers}
 
 -- Both headers were read, and were these. This content was read from a sector, or written to it. A write of it failed,
--- so it may have been written. All that was written was synced, or a sync failed.
+-- so it may have been written. All that was written was synced, or a sync failed. The file's name was synced.
 pub data Done : Type 0 where
   Looked : Headers → Done
   Read : ℕ → List ℕ → Done
@@ -11,6 +11,7 @@ pub data Done : Type 0 where
   Tried : ℕ → List ℕ → Done
   Synced : Done
   Unsynced : Done
+  Named : Done
 
 -- nothing is added
 abbrev pub Stays : {F : Type 0} → (F → List Done → Type 0) → F → F → Type 0
@@ -40,3 +41,7 @@ Writes happened n old content result new =
 abbrev pub Syncs : {F T E : Type 0} → (F → List Done → Type 0) → F → Result T E → F → Type 0
 Syncs happened old result new =
     MatchResult result (λ _. Adds happened Done.Synced old new) (λ _. Adds happened Done.Unsynced old new)
+
+-- a sync of the name is added
+abbrev pub Names : {F T E : Type 0} → (F → List Done → Type 0) → F → Result T E → F → Type 0
+Names happened old result new = MatchResult result (λ _. Adds happened Done.Named old new) (λ _. Stays happened old new)

@@ -1,7 +1,7 @@
-//! The device that looks at the headers before it writes, and believes no sync after one that failed.
+//! The device that looks at the headers before it writes, and believes no sync after one that failed. It has the file's name reach the disk.
 
-ghost use Rattle.std.specs.Prelude.{◌≡◌, ◌⊎◌, ⊤, ◌++◌, false, [], ◌∷◌, IfOk, MatchResult};
-ghost use Rattle.hill_file.specs.Careful.{careful_facts, EachWasWritten, Goes, HasDone, IsAsRead, IsCounted, IsLook, IsPut, IsRead, IsSync, Settles, opening};
+ghost use Rattle.std.specs.Prelude.{◌≡◌, ◌⊎◌, ⊤, ◌++◌, true, false, [], ◌∷◌, IfOk, MatchResult, OnOk};
+ghost use Rattle.hill_file.specs.Careful.{careful_facts, EachWasWritten, Goes, HasDone, IsAsRead, IsCounted, IsLook, IsNaming, IsPut, IsRead, IsSync, Settles, WritesNone, opening};
 ghost use Rattle.{sector_disk.specs.Served.IsServed, hill_file.specs.Done.Done};
 
 use crate::sector_file::{Headers, SectorFile};
@@ -11,7 +11,8 @@ use sector_disk::{Device, Fault};
 ///
 /// It knows both headers as they were when it was opened, or as it wrote them since. Before each write and after each
 /// sync it looks whether the file has them and each sector. If not, the call is a fault, and a write writes nothing.
-/// After a sync that failed, and when it was opened in doubt, the next one first writes each sector again as it reads it.
+/// After a sync that failed, and when it was opened in doubt, the next one first writes each sector again as it reads it. If it was opened in
+/// doubt, none is answered `Ok` before the file's name was synced.
 #[derive(Drop)]
 pub struct CarefulDevice<F> {
     file: F,
@@ -19,6 +20,7 @@ pub struct CarefulDevice<F> {
     known: Headers,
     settled: Headers,
     doubt: bool,
+    named: bool,
     faults: u64,
 }
 
@@ -26,10 +28,11 @@ impl<F: SectorFile + Drop> CarefulDevice<F> {
     /// The device over this file. It has counted no fault. `Fault` if the file's length or its headers can't be read. If it has fewer than
     /// two sectors, it has no headers, and the device writes and syncs nothing.
     ///
-    /// In `doubt` the device doesn't know whether an earlier sync of the file failed.
+    /// In `doubt` the device doesn't know whether an earlier sync of the file failed, nor whether its name was synced.
     pub fn over(file: F, doubt: bool) -> Result<CarefulDevice<F>, Fault>
         ensures faults { IfOk result (λ device. device.faults ≡ 0) }
         ensures settled { IfOk result (λ device. device.settled ≡ device.known) }
+        ensures doubt { IfOk result (λ device. device.doubt ≡ doubt) }
         ensures begins { F.happened file [] → IfOk result (λ device. HasDone F.happened (opening device.known doubt) device []
             ⊎ HasDone F.happened (opening device.known doubt) device (Done.Looked device.known ∷ [])) }
     {
@@ -46,6 +49,7 @@ impl<F: SectorFile + Drop> CarefulDevice<F> {
             known,
             settled: known,
             doubt,
+            named: !doubt,
             faults: 0,
         })
     }
@@ -65,6 +69,7 @@ impl<F: SectorFile> CarefulDevice<F> {
         ensures faults { self.new.faults ≡ self.old.faults }
         ensures doubt { self.new.doubt ≡ self.old.doubt }
         ensures settled { self.new.settled ≡ self.old.settled }
+        ensures named { self.new.named ≡ self.old.named }
         ensures goes { Goes F.happened (IsLook result) self.old self.new }
     {
         let sectors = self.file.length()?;
@@ -82,6 +87,7 @@ impl<F: SectorFile> CarefulDevice<F> {
         ensures faults { self.new.faults ≡ self.old.faults }
         ensures doubt { self.new.doubt ≡ self.old.doubt }
         ensures settled { self.new.settled ≡ self.old.settled }
+        ensures named { self.new.named ≡ self.old.named }
         ensures goes { Goes F.happened (IsPut n from.now result) self.old self.new }
     {
         self.look()?;
@@ -96,6 +102,7 @@ impl<F: SectorFile> CarefulDevice<F> {
         ensures faults { self.new.faults ≡ self.old.faults }
         ensures doubt { self.new.doubt ≡ self.old.doubt }
         ensures settled { self.new.settled ≡ self.old.settled }
+        ensures named { self.new.named ≡ self.old.named }
         ensures goes { Goes F.happened (λ start log done. IsAsRead done
             × MatchResult result (λ _. EachWasWritten self.old.sectors (done ++ log)) (λ _. ⊤)) self.old self.new }
     {
@@ -112,8 +119,10 @@ impl<F: SectorFile> CarefulDevice<F> {
         ensures size { self.new.sectors ≡ self.old.sectors }
         ensures faults { self.new.faults ≡ self.old.faults }
         ensures settled { self.new.settled ≡ self.old.settled }
+        ensures named { self.new.named ≡ self.old.named }
         ensures goes { Goes F.happened (λ start log done. IsAsRead done
             × MatchResult result (λ _. (self.new.doubt ≡ false) ⊎ EachWasWritten self.new.sectors (done ++ log)) (λ _. ⊤)) self.old self.new }
+        ensures quiet { self.old.doubt ≡ false → (self.new.doubt ≡ false) × Goes F.happened (λ start log done. done ≡ []) self.old self.new }
     {
         if self.doubt { self.put_all() } else { Ok(()) }
     }
@@ -123,6 +132,7 @@ impl<F: SectorFile> CarefulDevice<F> {
         ensures size { self.new.sectors ≡ self.old.sectors }
         ensures faults { self.new.faults ≡ self.old.faults }
         ensures settled { self.new.settled ≡ self.old.settled }
+        ensures named { self.new.named ≡ self.old.named }
         ensures goes { Settles F.happened result self.old self.new }
     {
         let answer = self.file.sync();
@@ -130,14 +140,45 @@ impl<F: SectorFile> CarefulDevice<F> {
         answer
     }
 
-    /// Syncs the file, and looks after that.
+    /// Syncs the file's name, if the device was opened in doubt and none of its syncs of the name was done.
+    fn keep_name(&mut self) -> Result<(), Fault>
+        ensures size { self.new.sectors ≡ self.old.sectors }
+        ensures faults { self.new.faults ≡ self.old.faults }
+        ensures doubt { self.new.doubt ≡ self.old.doubt }
+        ensures settled { self.new.settled ≡ self.old.settled }
+        ensures named { OnOk result (self.new.named ≡ true) }
+        ensures goes { Goes F.happened IsNaming self.old self.new }
+    {
+        if !self.named {
+            self.file.sync_name()?;
+            self.named = true;
+        }
+        Ok(())
+    }
+
+    /// Does what comes before the sync of the file: writes each sector again and syncs the name, where that is due.
+    fn prepare(&mut self) -> Result<(), Fault>
+        ensures size { self.new.sectors ≡ self.old.sectors }
+        ensures faults { self.new.faults ≡ self.old.faults }
+        ensures settled { self.new.settled ≡ self.old.settled }
+        ensures named { OnOk result (self.new.named ≡ true) }
+        ensures goes { Goes F.happened (λ start log done. IsAsRead done
+            × MatchResult result (λ _. (self.new.doubt ≡ false) ⊎ EachWasWritten self.new.sectors (done ++ log)) (λ _. ⊤)) self.old self.new }
+        ensures quiet { self.old.doubt ≡ false → (self.new.doubt ≡ false) × Goes F.happened IsNaming self.old self.new }
+    {
+        self.freshen()?;
+        self.keep_name()
+    }
+
+    /// Syncs the file after what comes before that, and looks then.
     fn sync_whole(&mut self) -> Result<(), Fault>
         ensures size { self.new.sectors ≡ self.old.sectors }
         ensures faults { self.new.faults ≡ self.old.faults }
         ensures settled { self.new.settled ≡ self.old.settled }
         ensures goes { Goes F.happened (IsSync self.old.sectors result) self.old self.new }
+        ensures quiet { self.old.doubt ≡ false → Goes F.happened (λ start log done. WritesNone done) self.old self.new }
     {
-        self.freshen()?;
+        self.prepare()?;
         self.settle()?;
         self.look()
     }
@@ -187,6 +228,7 @@ impl<F: SectorFile> Device for CarefulDevice<F> {
         ensures served { IsServed careful_facts self.old self.new result }
         ensures settled { MatchResult result (λ _. self.new.settled ≡ self.new.known) (λ _. self.new.settled ≡ self.old.settled) }
         ensures goes { Goes F.happened (IsSync self.old.sectors result) self.old self.new }
+        ensures quiet { self.old.doubt ≡ false → Goes F.happened (λ start log done. WritesNone done) self.old self.new }
     {
         let answer = self.sync_whole();
         if answer.is_ok() {

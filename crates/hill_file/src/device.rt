@@ -1,10 +1,11 @@
 //! The device over a hill's file.
 #![tactic(auto, using(crate::proofs::OfSystem::fault_of_system, crate::proofs::OfSystem::whatever_held))]
 
-ghost use Rattle.std.specs.Prelude.{◌≡◌, ◌≤◌, IfErr, IfOk};
+ghost use Rattle.std.specs.Prelude.{◌≡◌, ◌≤◌, false, IfErr, IfOk};
 ghost use Rattle.hill_file.specs.OpenFault.{IsOfSystem, IsWhateverHeld};
 
 use crate::careful_device::CarefulDevice;
+use crate::folder::own_folder;
 use crate::lock::{TryLock, require_held};
 use crate::open_fault::OpenFault;
 use crate::placed_file::{PlacedFile, Sharing, opened};
@@ -42,26 +43,41 @@ where
 {
     /// The device over the file at this path, which has to be there. It has counted no fault.
     ///
-    /// `Locked` if `sharing` is `Alone` and another program holds the lock. `Failed` with `NotFound` if there is no file, with
+    /// It is in doubt if the file holds a hill and may be written. Then its first sync that is answered `Ok` synced the folder of the file, too,
+    /// and if the path is a link, that is the folder of the file itself.
+    ///
+    /// `Locked` if `sharing` isn't `Shared` and another program holds the lock. `Memory` also if there is no memory for the name of the
+    /// folder. `Failed` with `NotFound` if there is no file, with
     /// `StaleNetworkFileHandle` if there is another by the time that it is locked, with `Other` if its headers can't be read, and else with
-    /// the system's reason, as for a folder. Never `Occupied`.
-    pub fn open(rt: &'f R, path: &'f str, sharing: Sharing) -> Result<HillFile<'f, R>, OpenFault>
+    /// the system's reason, as for a folder, or if that of a file in doubt can't be opened. Never `Occupied`.
+    pub fn open<A: Allocator>(
+        rt: &'f R,
+        alloc: A,
+        path: &'f str,
+        sharing: Sharing,
+    ) -> Result<HillFile<'f, R>, OpenFault>
         ensures faults { IfOk result (λ hill. hill.faults ≡ 0) }
         ensures shared { sharing ≡ Sharing.Shared → IfErr result IsOfSystem }
+        ensures kept { sharing ≡ Sharing.Kept → IfOk result (λ hill. hill.doubt ≡ false) }
         ensures held { IfErr result IsWhateverHeld }
     {
         let handle = opened(rt, path)?;
         match sharing {
-            Sharing::Alone => handle.lock_now()?,
+            Sharing::Alone | Sharing::Kept => handle.lock_now()?,
             Sharing::Shared => {}
         }
-        let file = PlacedFile {
+        let mut file = PlacedFile {
             rt,
             path,
             handle,
             sharing,
+            folder: None,
         };
-        device_over(file, 0)
+        let doubt = may_hold_a_hill(&mut file)?;
+        if doubt {
+            file.folder = Some(own_folder(rt, alloc, path)?);
+        }
+        careful_over(file, doubt, 0)
     }
 
     /// A device of at least `sectors` sectors, which all hold zeros, over the file at this path, locked for this program alone. It has
@@ -98,6 +114,7 @@ where
             path,
             handle,
             sharing: Sharing::Alone,
+            folder: None,
         };
         device_over(file, sectors)
     }
@@ -149,12 +166,12 @@ where
         path,
         handle,
         sharing: Sharing::Alone,
+        folder: None,
     };
     device_over(file, sectors)
 }
 
-/// The device over this file, in doubt if the file holds a hill that may be changed. `Failed` with `StaleNetworkFileHandle` if the path leads
-/// elsewhere by now, with `UnexpectedEof` if it has fewer than `least` sectors, and with `Other` if its headers can't be read.
+/// The device over this file, in doubt if the file holds a hill that may be changed. Its faults are those of `may_hold_a_hill` and `careful_over`.
 fn device_over<'f, R: Files>(
     file: PlacedFile<'f, R>,
     least: u32,
@@ -166,10 +183,39 @@ where
     ensures system { IfErr result IsOfSystem }
 {
     let mut file = file;
+    let doubt = may_hold_a_hill(&mut file)?;
+    careful_over(file, doubt, least)
+}
+
+/// Whether this file holds a hill that may be changed. `Failed` with `StaleNetworkFileHandle` if the path leads elsewhere by now, and with the
+/// system's reason if its headers can't be read.
+fn may_hold_a_hill<R: Files>(file: &mut PlacedFile<'_, R>) -> Result<bool, OpenFault>
+where
+    R::File: TryLock,
+    ensures sharing { file.new.sharing ≡ file.old.sharing }
+    ensures kept { file.old.sharing ≡ Sharing.Kept → IfOk result (λ doubt. doubt ≡ false) }
+    ensures system { IfErr result IsOfSystem }
+{
     let Some(sectors) = file.sectors_in_place()? else {
         return Err(OpenFault::Failed(ErrorKind::StaleNetworkFileHandle));
     };
-    let doubt = 2 <= sectors && file.begins_as_a_hill()?;
+    Ok(2 <= sectors && file.begins_as_a_hill()?)
+}
+
+/// The device over this file, in doubt or not. `Failed` with `UnexpectedEof` if it has fewer than `least` sectors, and with `Other` if its headers
+/// can't be read.
+fn careful_over<'f, R: Files>(
+    file: PlacedFile<'f, R>,
+    doubt: bool,
+    least: u32,
+) -> Result<HillFile<'f, R>, OpenFault>
+where
+    R::File: TryLock,
+    ensures enough { IfOk result (λ hill. least ≤ hill.sectors) }
+    ensures faults { IfOk result (λ hill. hill.faults ≡ 0) }
+    ensures doubt { IfOk result (λ hill. hill.doubt ≡ doubt) }
+    ensures system { IfErr result IsOfSystem }
+{
     let Ok(device) = CarefulDevice::over(file, doubt) else {
         return Err(OpenFault::Failed(ErrorKind::Other));
     };

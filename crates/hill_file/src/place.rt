@@ -5,16 +5,17 @@ ghost use Rattle.std.specs.Prelude.{◌≡◌, ◌++◌, codes, string_bytes, If
 ghost use Rattle.hill_file.specs.OpenFault.{IsOfSystem, IsWhateverHeld};
 
 use crate::device::Existing;
+use crate::folder::open_folder;
 use crate::lock::TryLock;
 use crate::open_fault::OpenFault;
 use crate::placed_file::{is_same_file, opened};
 use crate::zeros::require_zeros;
 use std::alloc::{AllocError, Allocator};
 use std::fs::{Files, OpenFile};
+use std::io;
 use std::io::ErrorKind;
 use std::os::unix::fs::MetadataExt;
 use std::path::Path;
-use std::{fs, io};
 
 /// The name under which the new file is made for the place at this path: that of the place with `.new` after it.
 pub fn name_beside<A: Allocator>(alloc: A, path: &str) -> Result<String<A>, AllocError>
@@ -125,11 +126,7 @@ fn fault_of_link(error: &io::Error) -> OpenFault {
 
 /// Makes the names in the folder of this path reach the disk. It takes no memory: the file is in its place by then.
 fn sync_folder<R: Files>(rt: &R, path: &str) -> io::Result<()> {
-    let folder = match Path::new(path).parent() {
-        Some(folder) if !folder.as_os_str().is_empty() => folder,
-        _ => Path::new("."),
-    };
-    fs::open(rt, folder)?.sync_all()
+    open_folder(rt, Path::new(path))?.sync_all()
 }
 
 /// The file at this path, locked, which holds zeros alone. `None` if nothing is there.

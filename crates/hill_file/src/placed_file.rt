@@ -19,6 +19,8 @@ const BEGINNING: &[u8] = b"KOTHHIL2";
 pub enum Sharing {
     /// Its lock is taken, so no other program that takes it works on the file.
     Alone,
+    /// The same, and the file is read alone: each write is a fault.
+    Kept,
     /// Its lock is neither taken nor looked at. The file is read alone: another program may change its headers, and each write is a fault.
     Shared,
 }
@@ -40,6 +42,8 @@ pub struct PlacedFile<'f, R: Files> {
     pub(crate) path: &'f str,
     pub(crate) handle: R::File,
     pub(crate) sharing: Sharing,
+    /// Its folder, until its name was synced. Nothing if no sync of its name is due.
+    pub(crate) folder: Option<R::File>,
 }
 
 impl<R: Files> PlacedFile<'_, R>
@@ -57,17 +61,18 @@ where
         Ok(Some(u32::try_from(sectors).unwrap_or(u32::MAX)))
     }
 
-    /// One of the headers begins as one of a hill, in a file that isn't shared.
+    /// One of the headers begins as one of a hill, in a file that may be written.
     pub(crate) fn begins_as_a_hill(&mut self) -> io::Result<bool>
         ensures sharing { self.new.sharing ≡ self.old.sharing }
         ensures shared { self.old.sharing ≡ Sharing.Shared → result ≡ Ok false }
+        ensures kept { self.old.sharing ≡ Sharing.Kept → result ≡ Ok false }
     {
         match self.sharing {
             Sharing::Alone => {
                 let headers = read_headers(&self.handle)?;
                 Ok(headers.even.starts_with(BEGINNING) || headers.odd.starts_with(BEGINNING))
             }
-            Sharing::Shared => Ok(false),
+            Sharing::Kept | Sharing::Shared => Ok(false),
         }
     }
 }
@@ -93,7 +98,7 @@ where
         ensures shared { self.old.sharing ≡ Sharing.Shared → result ≡ Ok Headers.ZEROS }
     {
         match self.sharing {
-            Sharing::Alone => read_headers(&self.handle).or(Err(Fault)),
+            Sharing::Alone | Sharing::Kept => read_headers(&self.handle).or(Err(Fault)),
             Sharing::Shared => Ok(Headers::ZEROS),
         }
     }
@@ -106,15 +111,26 @@ where
         ensures writes { Writes (λ _ _. ⊤) n self.old from.now result self.new }
         ensures sharing { self.new.sharing ≡ self.old.sharing }
         ensures shared { self.old.sharing ≡ Sharing.Shared → IsErr result × (self.new ≡ self.old) }
+        ensures kept { self.old.sharing ≡ Sharing.Kept → IsErr result × (self.new ≡ self.old) }
     {
         match self.sharing {
             Sharing::Alone => self.handle.write_all_at(from, offset_of(n)).or(Err(Fault)),
-            Sharing::Shared => Err(Fault),
+            Sharing::Kept | Sharing::Shared => Err(Fault),
         }
     }
 
     fn sync(&mut self) -> Result<(), Fault> {
         self.handle.sync_all().or(Err(Fault))
+    }
+
+    /// The folder is closed then, as no further sync of it is due.
+    fn sync_name(&mut self) -> Result<(), Fault> {
+        match &self.folder {
+            Some(folder) => folder.sync_all().or(Err(Fault))?,
+            None => return Err(Fault),
+        }
+        self.folder = None;
+        Ok(())
     }
 }
 

@@ -1,7 +1,7 @@
 //! What may be done with a file of sectors.
 
 ghost use Rattle.std.specs.Prelude.{◌≡◌, List};
-ghost use Rattle.hill_file.specs.{Careful.headers_after, Done.{Done, Looks, Reads, Stays, Syncs, Writes}};
+ghost use Rattle.hill_file.specs.{Careful.headers_after, Done.{Done, Looks, Names, Reads, Stays, Syncs, Writes}};
 
 use sector_disk::Fault;
 
@@ -58,4 +58,8 @@ pub trait SectorFile {
     /// Syncs what was written.
     fn sync(&mut self) -> Result<(), Fault>
         ensures { Syncs Self.happened self.old result self.new };
+
+    /// Syncs the file's name in its folder.
+    fn sync_name(&mut self) -> Result<(), Fault>
+        ensures { Names Self.happened self.old result self.new };
 }

@@ -33,7 +33,7 @@ where
     ensures open_now { IfOk result (λ store. store.reopen ≡ false) }
     ensures of_hill { IfErr result IsOfHill }
 {
-    match HillFile::open(rt, path, Sharing::Alone) {
+    match HillFile::open(rt, alloc, path, Sharing::Alone) {
         Ok(device) => open_device(rt, alloc, path, device),
         Err(fault) => Err(unopened_at(path, fault)),
     }
@@ -96,7 +96,7 @@ where
     ensures open_now { IfOk result (λ store. store.reopen ≡ false) }
     ensures of_hill { IfErr result IsOfHill }
 {
-    match HillFile::open(rt, path, Sharing::Alone) {
+    match HillFile::open(rt, alloc, path, Sharing::Alone) {
         Ok(device) => {
             if is_another_hill(left, &device.settled()) {
                 return Err(told_at(path, Fault::Stream, Reason::InUse));

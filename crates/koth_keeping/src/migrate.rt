@@ -1,6 +1,6 @@
 //! The command `migrate`: the hill in a file of the old format, moved to a new file.
 
-ghost use Rattle.std.specs.Prelude.{◌≡◌};
+ghost use Rattle.std.specs.Prelude.{◌≡◌, false};
 ghost use Rattle.koth_keeping.specs.{Answers.{Answers, SaysLine}, Migration.{MigratesTo, file_of, migrated_line}};
 
 use crate::answer::answer_of;
@@ -31,7 +31,7 @@ where
     R::File: TryLock,
     ensures { Answers (SaysLine migrated_line) result }
 {
-    let old = match HillFile::open(rt, files.old, Sharing::Alone) {
+    let old = match HillFile::open(rt, alloc, files.old, Sharing::Kept) {
         Ok(device) => device,
         Err(fault) => return Err(unopened_at(files.old, fault)),
     };
@@ -40,6 +40,21 @@ where
         Ok(device) => device,
         Err(fault) => return Err(unopened_at(files.new, fault)),
     };
+    migrate_kept(alloc, files, old, new)
+}
+
+/// Moves the hill in one file to another. Nothing is written to the old one, as its device has no doubt.
+fn migrate_kept<'m, 'f, R: Files, A: Allocator + Copy>(
+    alloc: A,
+    files: Migration<'m>,
+    old: HillFile<'f, R>,
+    new: HillFile<'f, R>,
+) -> Result<Answer<A>, Trouble<'m>>
+where
+    R::File: TryLock,
+    requires undoubted { old.doubt ≡ false }
+    ensures { Answers (SaysLine migrated_line) result }
+{
     migrate_between(alloc, files, old, new)
 }
 

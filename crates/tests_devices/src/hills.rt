@@ -12,8 +12,10 @@ const KEPT: Way = Way::MakeHill(3, Existing::Kept);
 
 const OVERWRITTEN: Way = Way::MakeHill(3, Existing::Overwritten);
 
-/// The file is opened with its lock, or beside others.
+/// The file is opened with its lock, or so that it stays as it is, or beside others.
 const ALONE: Way = Way::OpenHill(Sharing::Alone);
+
+const AS_IT_IS: Way = Way::OpenHill(Sharing::Kept);
 
 const SHARED: Way = Way::OpenHill(Sharing::Shared);
 
@@ -64,14 +66,21 @@ const FOLDER: Result<u32, OpenFault> = Err(OpenFault::Failed(ErrorKind::IsADirec
 
 const UNFIT: Result<u32, OpenFault> = Err(OpenFault::Failed(ErrorKind::InvalidInput));
 
-/// The file is opened, looked for and measured. If it is for this program alone, it is locked first, and its headers are read.
-static OPENING: [Trial; 7] = [
+/// The file is opened, looked for and measured. If it is for this program alone, it is locked first, and its headers are read. Then the folder
+/// of a hill that may be changed is opened, too.
+static OPENING: [Trial; 13] = [
     Trial::At(Deed::Remove),
     Trial::Got(ALONE, MISSING, b"o"),
     Trial::Got(SHARED, MISSING, b"o"),
     Trial::Got(KEPT, Ok(3), &MADE),
     Trial::Got(ALONE, Ok(3), b"okmrmr"),
+    Trial::Got(AS_IT_IS, Ok(3), b"okmmr"),
     Trial::Got(SHARED, Ok(3), b"omm"),
+    Trial::At(Deed::Write(b"KOTHHIL2")),
+    Trial::At(Deed::SetLength(1536)),
+    Trial::Got(ALONE, Ok(3), b"okmromr"),
+    Trial::Stopped(ALONE, 4, b"okmromr"),
+    Trial::Got(AS_IT_IS, Ok(3), b"okmmr"),
     Trial::At(Deed::Remove),
 ];
 
@@ -104,6 +113,9 @@ const SYNCED: [u8; 3] = *b"ymr";
 /// If the device doubts, each of three sectors is read, and written after a look, before the sync.
 const DOUBTED: [u8; 15] = *b"rmrwrmrwrmrwymr";
 
+/// If its name may not have been synced, the folder is, before the file.
+const NAMED: [u8; 16] = *b"rmrwrmrwrmrwyymr";
+
 /// Each call of a device, and each of the file's in it that fails. A read needs no look. After a sync that failed the next one writes each sector
 /// again, and nothing else that fails makes it do so.
 const EACH: [Step<'static>; 12] = [
@@ -133,8 +145,10 @@ fn each_call_of_a_hill(rt: HostRuntime) {
     try_at(&rt, "hill-calls", &CALLED);
 }
 
-/// The first sync writes each sector again.
-const IN_DOUBT: [Step<'static>; 2] = [
+/// The first sync writes each sector again, and syncs the folder. That is done once.
+const IN_DOUBT: [Step<'static>; 4] = [
+    Step::Fails(Call::Sync, &NAMED, 0, 13),
+    Step::Fails(Call::Sync, &NAMED, 13, 14),
     Step::Done(Call::Sync, &DOUBTED),
     Step::Done(Call::Sync, &SYNCED),
 ];
@@ -143,7 +157,7 @@ const IN_DOUBT: [Step<'static>; 2] = [
 const WRITTEN_IN_DOUBT: [Step<'static>; 6] = [
     Step::Done(Call::Write(1, 7), &WRITTEN),
     Step::Done(Call::Write(2, 3), &WRITTEN),
-    Step::Done(Call::Sync, &DOUBTED),
+    Step::Done(Call::Sync, &NAMED),
     Step::Done(Call::Sync, &SYNCED),
     Step::Done(Call::Read(1, 7, 7), b"r"),
     Step::Done(Call::Read(2, 3, 3), b"r"),
@@ -155,14 +169,24 @@ const SURE: [Step<'static>; 2] = [
     Step::Done(Call::Sync, &SYNCED),
 ];
 
+/// No call writes anything.
+const UNCHANGED: [Step<'static>; 3] = [
+    Step::Done(Call::Sync, &SYNCED),
+    Step::Fault(Call::Write(2, 7), b"mr"),
+    Step::Done(Call::Sync, &SYNCED),
+];
+
 /// A hill that may be changed is written again at its first sync, and nothing else is.
-static SYNCS: [Trial; 13] = [
+static SYNCS: [Trial; 16] = [
     Trial::At(Deed::Write(b"KOTHHIL2")),
     Trial::At(Deed::SetLength(1536)),
     Trial::On(ALONE, &IN_DOUBT),
     Trial::At(Deed::Write(b"KOTHHIL2")),
     Trial::At(Deed::SetLength(1536)),
     Trial::On(ALONE, &WRITTEN_IN_DOUBT),
+    Trial::At(Deed::Write(b"KOTHHIL2")),
+    Trial::At(Deed::SetLength(1536)),
+    Trial::On(AS_IT_IS, &UNCHANGED),
     Trial::At(Deed::Write(b"KOTHHIL1")),
     Trial::At(Deed::SetLength(1536)),
     Trial::On(ALONE, &SURE),
@@ -182,7 +206,7 @@ fn syncs_of_a_hill(rt: HostRuntime) {
 static BESIDE: [Trial; 4] = [
     Trial::Beside(b"KOTHHIL1", Call::Write(1, 7), &WRITTEN, 2, 9),
     Trial::Beside(b"KOTHHIL1", Call::Sync, &SYNCED, NEVER, 9),
-    Trial::Beside(b"KOTHHIL2", Call::Sync, &DOUBTED, 3, b'K'),
+    Trial::Beside(b"KOTHHIL2", Call::Sync, &NAMED, 3, b'K'),
     Trial::At(Deed::Remove),
 ];
 

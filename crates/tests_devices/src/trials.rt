@@ -76,7 +76,7 @@ fn got<R: Files<File = File> + AllocGlobal>(
         Way::MakeFile(sectors) => {
             of_file(sectors_of(FileDevice::make(on, alloc, path, sectors)))
         }
-        Way::OpenHill(sharing) => sectors_of(HillFile::open(on, path, sharing)),
+        Way::OpenHill(sharing) => sectors_of(HillFile::open(on, alloc, path, sharing)),
         Way::MakeHill(sectors, existing) => {
             sectors_of(HillFile::make(on, alloc, path, sectors, existing))
         }
@@ -142,7 +142,12 @@ fn step_on<R: Files<File = File> + AllocGlobal + Abort>(
         Way::MakeFile(sectors) => {
             take_on(on, FileDevice::make(on, alloc, path, sectors), path, steps);
         }
-        Way::OpenHill(sharing) => take_on(on, HillFile::open(on, path, sharing), path, steps),
+        Way::OpenHill(sharing) => take_on(
+            on,
+            HillFile::open(on, alloc, path, sharing),
+            path,
+            steps,
+        ),
         Way::MakeHill(sectors, existing) => {
             let made = HillFile::make(on, alloc, path, sectors, existing);
             take_on(on, made, path, steps);
@@ -173,7 +178,7 @@ fn expect_beside<R: Files<File = File> + AllocGlobal + Abort>(
     due: Result<(), Fault>,
     first: u8,
 ) {
-    let opened = HillFile::open(on, path, Sharing::Alone);
+    let opened = HillFile::open(on, on.files.alloc(), path, Sharing::Alone);
     let answer = ended_beside(on, opened, call, filled_at);
     let begins = begins_with(on.files, path, first);
     expect_same(

@@ -70,11 +70,12 @@ fn note(calls: &Cell<Calls>, letter: u8) -> io::Result<()> {
 }
 
 impl<F: FileExt> WatchedFile<'_, F> {
-    /// The other program writes if it is its turn, and the call is written down.
+    /// The other program writes if it is its turn, and the call is written down. If this is a folder, it writes before the next call.
     fn begin(&self, letter: u8) -> io::Result<()> {
-        let so_far = self.calls.get();
-        if so_far.count == so_far.filled_at {
-            self.file.write_at(&[9; 512], 0)?;
+        let mut so_far = self.calls.get();
+        if so_far.count == so_far.filled_at && self.file.write_at(&[9; 512], 0).is_err() {
+            so_far.filled_at = so_far.count.saturating_add(1);
+            self.calls.set(so_far);
         }
         note(self.calls, letter)
     }

@@ -5,5 +5,5 @@ pub returns-else-self-sectors-clause-goes : goal.returns-else-self-sectors-claus
 returns-else-self-sectors-clause-goes g c = λ start log on. (
   Done.Looked c.in_ok-found.found ∷ [],
   inr (c.in_ok-found.found, refl),
-  record { history = c.in_ok-found.ensures log (c.in_ok-sectors.ensures log on.history); known = on.known; careful = on.careful; sure = on.sure },
+  record { history = c.in_ok-found.ensures log (c.in_ok-sectors.ensures log on.history); known = on.known; careful = on.careful; sure = on.sure; named = on.named },
 )

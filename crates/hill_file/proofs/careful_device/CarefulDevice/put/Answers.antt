@@ -13,5 +13,5 @@ returns-in_err-write-clause-goes g c = λ start log on.
     let seen = subst (λ xs. HasDone g.F.SectorFile.happened start c.look.new.self (xs ++ log)) gone.1 gone.2 in (
       Done.Tried c.args.n c.args.from.now ∷ Done.Looked (remembered start log) ∷ [],
       at_err _ c.from_residual-in_err-write.result c.from_residual-in_err-write.ensures.0 (inr refl),
-      record { history = c.in_err-write.ensures (Done.Looked (remembered start log) ∷ log) seen.history; known = seen.known; careful = (refl, seen.careful); sure = seen.sure },
+      record { history = c.in_err-write.ensures (Done.Looked (remembered start log) ∷ log) seen.history; known = seen.known; careful = (refl, seen.careful); sure = seen.sure; named = seen.named },
     )
