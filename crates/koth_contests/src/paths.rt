@@ -1,7 +1,7 @@
 //! The paths of files in a folder, and names that are no text.
 
 ghost use Rattle.std.specs.Prelude.{◌≡◌, ◌++◌, string_bytes, IfOk};
-ghost use Rattle.koth_contests.specs.Opponents.IsIn;
+ghost use Rattle.koth_contests.specs.Opponents.{IsIn};
 
 use std::alloc::{AllocError, Allocator};
 
