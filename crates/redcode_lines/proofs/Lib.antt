@@ -1,3 +1,4 @@
 mod Lines
 pub mod Readings
+pub mod ShownTexts
 pub mod SourceLines

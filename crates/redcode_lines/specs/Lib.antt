@@ -8,5 +8,7 @@ pub mod Block
 pub mod Operand
 -- the text of a line, and a place in it
 pub mod Place
+-- a text as a terminal may have it
+pub mod Shown
 -- what a contract sees of a line in memory
 pub mod Views

@@ -1,5 +1,5 @@
 -- How a line is read: its labels, its word, and what is after them.
-use Rattle.std.specs.{Prelude.{ℕ, Bool, true, false, not, ◌&&◌, ◌||◌, if◌then◌else◌, List, [], ◌∷◌, is_some, Option, Some, None, codes}, Str.bytes_eq}
+use Rattle.std.specs.{Prelude.{ℕ, Bool, true, false, not, ◌&&◌, ◌||◌, if◌then◌else◌, List, [], ◌∷◌, take, is_some, Option, Some, None, codes}, Str.bytes_eq}
 use Rattle.redcode_text.specs.{declared.token.TokenKind.TokenKind, declared.vocabulary.Word.Word, Tokens.{Piece, pieces_of}, Vocabulary.word_of}
 use Rattle.redcode_lines.specs.declared.reading.LineForm.{LineForm}
 
@@ -86,15 +86,21 @@ pub record SourceLine : Type 0 where
   pub title : List ℕ
   -- the tokens before the word of a statement; none if it has no word
   pub front : List Piece
-  -- the other tokens of a statement, from its word on; the tokens after the word of an assertion
+  -- the other tokens of a statement, from its word on, of a ROF that word alone; the tokens after the word of an assertion
   pub tokens : List Piece
 
 abbrev pub source_line : ℕ → LineForm → Option Word → List ℕ → List Piece → List Piece → SourceLine
 source_line number form word title front tokens = record { number = number; form = form; word = word; title = title; front = front; tokens = tokens }
 
+-- what is read of the tokens from the word on: of a ROF that word alone, since the text after it is ignored
+abbrev pub tokens_read : Option Word → List Piece → List Piece
+tokens_read (Some Word.Rof) tokens = take 1 tokens
+tokens_read _ tokens = tokens
+
 abbrev pub statement_by : ℕ → Option Word → List Piece → SourceLine
 statement_by number None tokens = source_line number LineForm.Statement None [] [] tokens
-statement_by number (Some word) tokens = source_line number LineForm.Statement (Some word) [] (taken_while is_front tokens) (dropped_while is_front tokens)
+statement_by number (Some word) tokens =
+    source_line number LineForm.Statement (Some word) [] (taken_while is_front tokens) (tokens_read (Some word) (dropped_while is_front tokens))
 
 -- a statement of these tokens
 abbrev pub statement : ℕ → List Piece → SourceLine

@@ -54,6 +54,7 @@ fn line_behind(source: &[u8], count: u32) -> &[u8]
 {
     let mut rest = source;
     let mut left = count;
+    // For messages; no assembly comes here.
     while !rest.is_empty() {
         let (line, behind) = first_line(rest);
         if left == 0 {

@@ -46,6 +46,7 @@ pub fn whole(text: &[u8]) -> Span {
 
 /// How many blanks stand at the front.
 pub fn blanks_before(text: &[u8]) -> u32 {
+    // For messages; no assembly comes here.
     let blanks = text.iter().take_while(|byte| is_blank(**byte)).count();
     u32::try_from(blanks).unwrap_or(u32::MAX)
 }

@@ -33,7 +33,7 @@ pub struct Reading<'l, 's> {
     pub title: &'s [u8],
     /// The tokens before the word of a statement; none if it has no word.
     pub front: &'l [Token<'s>],
-    /// The other tokens of a statement, from its word on; the tokens after the word of an assertion.
+    /// The other tokens of a statement, from its word on, of a `ROF` that word alone; the tokens after the word of an assertion.
     pub tokens: &'l [Token<'s>],
 }
 
@@ -66,6 +66,7 @@ pub(crate) fn word_in(tokens: &[Token<'_>]) -> (Option<Word>, usize)
     ensures from { pieces (drop result.1 tokens.now) ≡ tokens_from_word (pieces tokens.now) }
     ensures within { result.1 ≤ length tokens.now }
 {
+    // Takes no step: a line's word is looked up once, before the walk.
     for (i, token) in tokens.iter().enumerate() {
         if let Some(word) = word_at(token) {
             return (Some(word), i);
@@ -91,6 +92,7 @@ fn names_before(tokens: &[Token<'_>]) -> usize
     ensures behind { pieces (drop result tokens.now) ≡ dropped_while is_name_token (pieces tokens.now) }
     ensures within { result ≤ length tokens.now }
 {
+    // Paid by the steps of the tokens of a line that is walked over, or is judged once it is written out.
     for (i, token) in tokens.iter().enumerate() {
         if !is_name(token) {
             return i;
@@ -127,6 +129,7 @@ pub fn has_text(token: &Token<'_>, text: &[u8]) -> bool
 pub fn has_and(tokens: &[Token<'_>]) -> bool
     ensures { result ≡ has_and (pieces tokens.now) }
 {
+    // Takes no step: each line is asked three times, before the walk.
     for token in tokens {
         if has_text(token, b"&") {
             return true;

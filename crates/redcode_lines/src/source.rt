@@ -26,6 +26,7 @@ pub fn live_source(source: &[u8]) -> (u32, &[u8])
 {
     let mut rest = source;
     let mut number = 1;
+    // Takes no step: a source's bytes are passed once before the walk.
     while !rest.is_empty() {
         let (line, behind) = first_line(rest);
         if matches!(directive_of(line), Some((Directive::Redcode, _))) {
@@ -44,6 +45,7 @@ pub fn first_line(source: &[u8]) -> (&[u8], &[u8])
     ensures shorter { length result.1.now < length source.entry.now }
     ensures short { length result.0.now ≤ length source.entry.now }
 {
+    // Takes no step: a source's bytes are passed before the walk.
     for (i, byte) in source.iter().enumerate() {
         if *byte == b'\n' {
             return (&source[..i], &source[i + 1..]);
@@ -57,6 +59,7 @@ pub fn directive_of(line: &[u8]) -> Option<(Directive, &[u8])>
     ensures found { option_map seen result ≡ directive_of line.entry.now }
     ensures short { IfSome result (λ found. length found.1.now ≤ length line.entry.now) }
 {
+    // Takes no step: the blanks before a line's first byte are passed twice, before the walk.
     for (i, byte) in line.iter().enumerate() {
         if *byte == b';' {
             return Some(remark_of(&line[i + 1..]));
@@ -100,7 +103,7 @@ fn begins(word: &[u8], text: &[u8]) -> bool
 }
 
 /// The text without its first `bytes` bytes.
-fn behind(bytes: usize, text: &[u8]) -> &[u8]
+pub(crate) fn behind(bytes: usize, text: &[u8]) -> &[u8]
     ensures behind { result.now ≡ drop bytes text.entry.now }
     ensures short { length result.now ≤ length text.entry.now }
 {

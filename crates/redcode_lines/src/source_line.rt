@@ -1,7 +1,7 @@
 //! The lines of a source that are not skipped.
 
 ghost use Rattle.std.specs.Prelude.{◌≡◌, ◌+◌, ◌≤◌, ◌<◌, ◌++◌, ◌∷◌, [], None, length, take, drop, OnOk, IfOk};
-ghost use Rattle.{redcode_text.specs.Tokens.pieces, redcode_lines.specs.{Source.{directive_of, lines_of, numbered_from}, Line.{source_line, statement, statement_tokens, without_comment}}};
+ghost use Rattle.{redcode_text.specs.Tokens.pieces, redcode_lines.specs.{Source.{directive_of, lines_of, numbered_from}, Line.{source_line, statement, statement_tokens, tokens_read, without_comment}}};
 ghost use Rattle.redcode_lines.specs.Block.{directive_line, line_by, source_lines};
 
 use crate::reading::{LineForm, Reading, word_in};
@@ -81,6 +81,7 @@ pub fn source_lines<'s, A: Allocator + Copy>(
     let mut lines = Vec::new(alloc);
     let mut rest = source;
     let mut number = first;
+    // Takes no step: each line is read once, before the walk.
     while !rest.is_empty() {
         let (line, behind) = first_line(rest);
         append_line(alloc, number, line, &mut lines)?;
@@ -155,6 +156,7 @@ fn statement_tokens<'s, A: Allocator + Copy>(
 fn before_comment(tokens: &[Token<'_>]) -> usize
     ensures { pieces (take result tokens.now) ≡ without_comment (pieces tokens.now) }
 {
+    // Takes no step: each token of the source is passed once, before the walk.
     for (i, token) in tokens.iter().enumerate() {
         if matches!(token.kind, TokenKind::Comment) {
             return i;
@@ -172,8 +174,28 @@ fn statement<'s, A: Allocator>(number: u32, tokens: Vec<Token<'s>, A>) -> Source
         form: LineForm::Statement,
         word,
         title: b"",
-        tokens,
+        tokens: tokens_read(word, front, tokens),
         front,
+    }
+}
+
+/// The tokens of a statement that are read; `front` of them stand before its word. Of a `ROF` none is read after that word.
+fn tokens_read<'s, A: Allocator>(
+    word: Option<Word>,
+    front: usize,
+    mut tokens: Vec<Token<'s>, A>,
+) -> Vec<Token<'s>, A>
+    requires { front ≤ length tokens.items }
+    ensures front { take front result.items ≡ take front tokens.entry.items }
+    ensures tokens { pieces (drop front result.items) ≡ tokens_read word (pieces (drop front tokens.entry.items)) }
+    ensures within { front ≤ length result.items }
+{
+    match word {
+        Some(Word::Rof) => {
+            tokens.truncate(front + 1);
+            tokens
+        }
+        _ => tokens,
     }
 }
 
