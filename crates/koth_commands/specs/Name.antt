@@ -1,5 +1,6 @@
 -- The name of a file as messages have it.
-use Rattle.std.specs.{Prelude.{ℕ, ◌+◌, ◌/◌, ◌%◌, nat_lt, ◌==◌, Bool, ◌||◌, if◌then◌else◌, List, [], ◌∷◌}, Char.{encode_utf8, is_control}, Int.is_in_range, List.flat_map, Str.chars}
+use Rattle.std.specs.{Prelude.{ℕ, ◌+◌, ◌/◌, ◌%◌, nat_lt, ◌==◌, if◌then◌else◌, List, [], ◌∷◌}, Char.encode_utf8, List.flat_map, Str.chars}
+use Rattle.redcode_lines.specs.Shown.is_acted_on
 
 -- the last digit of a number in base 16: 0 to 9 and a to f
 abbrev pub hex_digit : ℕ → ℕ
@@ -8,14 +9,6 @@ hex_digit n = if nat_lt (n % 16) 10 then 48 + n % 16 else 87 + n % 16
 -- a byte as `\x` and two digits
 abbrev pub byte_shown : ℕ → List ℕ
 byte_shown n = 92 ∷ 120 ∷ hex_digit (n / 16) ∷ hex_digit n ∷ []
-
--- a mark or an override of the direction in which a text is written
-abbrev pub is_direction : ℕ → Bool
-is_direction c = is_in_range 0x200E 0x200F c || (is_in_range 0x202A 0x202E c || is_in_range 0x2066 0x2069 c)
-
--- a terminal acts upon the character of this number: a control character, or one of direction
-abbrev pub is_acted_on : ℕ → Bool
-is_acted_on c = is_control c || is_direction c
 
 -- a character that a terminal acts upon by its bytes, and any other as it is
 abbrev pub shown_character : ℕ → List ℕ

@@ -1,8 +1,9 @@
 //! The name of a file as messages have it, so that no name moves a terminal's cursor or begins another line.
 
 ghost use Rattle.std.specs.{Prelude.{◌≡◌, ◌++◌, IfOk, OnOk}, List.flat_map};
-ghost use Rattle.koth_commands.specs.Name.{byte_shown, hex_digit, is_acted_on, shown_character, shown_in_lines, shown_lines, shown_name};
+ghost use Rattle.koth_commands.specs.Name.{byte_shown, hex_digit, shown_character, shown_in_lines, shown_lines, shown_name};
 
+use redcode_lines::is_acted_on;
 use std::alloc::{AllocError, Allocator};
 
 /// A name: each byte of a character that a terminal acts upon as `\x` and two digits, and any other character as it is. The error is lack of memory.
@@ -69,17 +70,6 @@ fn put_byte<A: Allocator>(text: &mut Vec<u8, A>, byte: u8) -> Result<(), AllocEr
     ensures { OnOk result (text.new.items ≡ text.old.items ++ byte_shown byte) }
 {
     text.extend_from_slice(&[b'\\', b'x', hex_digit(byte / 16), hex_digit(byte)])
-}
-
-/// Whether a terminal acts upon the character of this number: a control character, U+0080 to U+009F included, or a mark or an override
-/// of the direction in which a text is written.
-fn is_acted_on(character: u32) -> bool
-    ensures { result ≡ is_acted_on character }
-{
-    matches!(
-        character,
-        0..=0x1F | 0x7F..=0x9F | 0x200E..=0x200F | 0x202A..=0x202E | 0x2066..=0x2069
-    )
 }
 
 /// The last digit of a number in base 16.
