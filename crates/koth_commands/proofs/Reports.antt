@@ -51,7 +51,7 @@ module _ {A B : Type 0} (fault : A → AsmFault) (noted : B → Noted) (s : RawS
       → refused ≡ (has_any read || (how.deny && has_any seen)) → status ≡ status_by false refused
       → AreLines (TellsFound how.form name source) (map (λ d. found_fault (fault d)) read) fault_text
       → AreLines (TellsFound how.form name source) (map (λ w. found_warning (noted w)) seen) warning_text
-      → text ≡ fault_text ++ warning_text → IsNoteOf source note → IsAnswered s how name source (answer_parts status text note)
+      → text ≡ fault_text ++ warning_text → IsNoteOf name source note → IsAnswered s how name source (answer_parts status text note)
   answered refused status fault_text warning_text text note is also tells all told refuses ends faults warnings split noted_so =
       let IsLine = TellsFound how.form name source in
       let first = subst (λ l. AreLines IsLine (map found_fault (map fault l)) fault_text) is (lines_of_both IsLine found_fault fault read fault_text faults) in

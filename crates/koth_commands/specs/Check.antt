@@ -42,7 +42,7 @@ pub record Part : Type 0 where
 -- follows that
 abbrev pub IsPartBy : RawSettings → Manner → Place → Option (List ℕ) → List ℕ → List ℕ → Option (List ℕ) → Option (List ℕ) → Type 0
 IsPartBy s how at (Some source) text told before after = From (at_input at) (λ old new. Takes old new source) before after
-    × IsReport s how (name_at at) source text × ((note : List ℕ) × IsNoteOf source note × Begins told note)
+    × IsReport s how (name_at at) source text × ((note : List ℕ) × IsNoteOf (name_at at) source note × Begins told note)
 IsPartBy s how at None text told before after = From (at_input at) TakesSome before after × (text ≡ [])
     × ((apart : Apart) × (more : List ℕ) × Begins told (fault_word Fault.Stream ++ (apart_text apart ++ more)))
 

@@ -1,5 +1,5 @@
 -- The report of a source: its faults, and its warnings if they are asked for.
-use Rattle.std.specs.Prelude.{◌≡◌, ◌⊎◌, ℕ, Bool, true, false, ◌||◌, ◌&&◌, if◌then◌else◌, Option, None, Some, List, [], ◌∷◌, ◌++◌, codes, is_err, map}
+use Rattle.std.specs.Prelude.{◌≡◌, ◌⊎◌, ℕ, Bool, true, false, ◌||◌, ◌&&◌, if◌then◌else◌, Option, None, Some, List, [], ◌∷◌, ◌++◌, codes, decimal, is_err, map}
 use Rattle.{war_types.specs.{declared.fault.AsmFault.AsmFault, declared.settings.RawSettings.RawSettings, Fault.kind_name}, redcode_asm.specs.{Assembly.assembly, Within.MaySpend}}
 use Rattle.{redcode_lines.specs.Place.{IsPlaceIn, line_text}, redcode_diagnosis.specs.{Told.TellsAll, Text.{Begins, said_heading}}}
 use Rattle.redcode_warnings.specs.{Kind.{kind_name as warning_name}, Warnings.{Noted, warnings_of}}
@@ -77,9 +77,13 @@ pub record IsReport (s : RawSettings) (how : Manner) (name source text : List �
   pub lines : AreLines (TellsFound how.form name source)
       (map found_fault faults ++ map found_warning (warnings_if how.warnings source)) text
 
--- what is written of it on standard error: nothing, or that its assembly may spend what a service gives it by default
-abbrev pub IsNoteOf : List ℕ → List ℕ → Type 0
-IsNoteOf source note = (note ≡ []) ⊎ MaySpend STEPS source
+-- the line for a source that is called so: its assembly spends what a service gives it by default
+abbrev pub steps_told : List ℕ → List ℕ
+steps_told name = shown_name name ++ (codes ": over " ++ (decimal STEPS ++ codes " steps: a service doesn't assemble it (--steps)\n"))
+
+-- what is written of it on standard error: nothing, or that line if its assembly may spend that
+abbrev pub IsNoteOf : List ℕ → List ℕ → List ℕ → Type 0
+IsNoteOf name source note = (note ≡ []) ⊎ ((note ≡ steps_told name) × MaySpend STEPS source)
 
 -- whether a source is refused that was read: it doesn't assemble, or it has warnings and these are denied
 abbrev pub is_refused : RawSettings → Manner → Option (List ℕ) → Bool
@@ -93,4 +97,4 @@ status_by unread refused = if unread then Status.StreamFault else (if refused th
 pub record IsAnswered (s : RawSettings) (how : Manner) (name source : List ℕ) (answer : AnswerParts) : Type 0 where
   pub status : answer.status ≡ status_by false (is_refused s how (Some source))
   pub report : IsReport s how name source answer.text
-  pub note : IsNoteOf source answer.note
+  pub note : IsNoteOf name source answer.note

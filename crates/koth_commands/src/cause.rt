@@ -47,6 +47,8 @@ pub enum Reason {
     Unfit,
     /// The address is not of this machine.
     Elsewhere,
+    /// The system doesn't listen at the address, as at a link-local one without its interface.
+    NoListening,
     /// Nobody reads what is written.
     ReaderGone,
     /// No more can be written.
@@ -105,6 +107,9 @@ impl Reason {
                 "its file system lacks locks or links that a hill needs; take a local disk"
             }
             Reason::Elsewhere => "it is not of this machine",
+            Reason::NoListening => {
+                "the system doesn't listen at its address; one of fe80::/10 needs an interface, which --listen doesn't take"
+            }
             Reason::ReaderGone => "its reader is gone",
             Reason::NoRoom => "no more can be written",
             Reason::Late => "there was no answer in time",

@@ -29,7 +29,7 @@ pub mod trouble;
 pub use answer::{Answer, RefusedSource, deliver, refusal, refused_text};
 pub use cause::{Cause, Reason, Subject, reason_of};
 pub use explanation::{explain, explanation_of};
-pub use name::put_name;
+pub use name::{lines_text, name_text, put_name};
 pub use settings::refuse_settings;
 pub use source::{open_source, source_name, text_from};
 pub use status::Status;

@@ -1,15 +1,16 @@
 //! The report of a source: its refusals, and its warnings if they are asked for.
 
-ghost use Rattle.std.specs.Prelude.{◌≡◌, ◌||◌, ◌&&◌, All, map, true, false, IfOk, MatchResult};
+ghost use Rattle.std.specs.Prelude.{◌≡◌, ◌||◌, ◌&&◌, ◌++◌, All, map, true, false, IfOk, OnOk, MatchResult};
 ghost use Rattle.{redcode_asm.specs.Within.MaySpend, redcode_lines.specs.Place.{IsPlaceIn, line_text}, koth_json.specs.Finding.finding_line};
 ghost use Rattle.{koth_words.specs.declared.serving.TheConstants.STEPS, koth_commands.specs.Trouble.no_memory};
-ghost use Rattle.koth_commands.specs.Report.{has_any, manner_of, status_by, warnings_if, AreLines, IsAnswered, IsNoteOf, TellsFound};
+ghost use Rattle.koth_commands.specs.Report.{has_any, manner_of, status_by, steps_told, warnings_if, AreLines, IsAnswered, IsNoteOf, TellsFound};
 
 use crate::answer::Answer;
-use crate::name::name_text;
+use crate::name::{name_text, put_name};
 use crate::status::Status;
 use crate::trouble::Trouble;
 use koth_json::{Copied, Finding, Severity, put_finding};
+use koth_text::put_number;
 use koth_words::{Checked, Form, STEPS};
 use redcode_asm::{Unassembled, assemble_within};
 use redcode_diagnosis::{Diagnosis, diagnose, line_text, text_of, warning_text_of};
@@ -212,14 +213,23 @@ fn slow_note<A: Allocator + Copy>(
     name: &str,
     source: &[u8],
 ) -> Result<Vec<u8, A>, AllocError>
-    ensures { IfOk result (λ note. IsNoteOf source.now note.items) }
+    ensures { IfOk result (λ note. IsNoteOf name.now source.now note.items) }
 {
     let mut note = Vec::new(alloc);
     if is_slow(alloc, settings, source) {
-        note.extend_from_slice(name.as_bytes())?;
-        note.extend_from_slice(b": over 250000 steps: a service doesn't assemble it (--steps)\n")?;
+        put_slow_note(&mut note, name)?;
     }
     Ok(note)
+}
+
+/// Puts the line that says so.
+fn put_slow_note<A: Allocator>(note: &mut Vec<u8, A>, name: &str) -> Result<(), AllocError>
+    ensures { OnOk result (note.new.items ≡ note.old.items ++ steps_told name.now) }
+{
+    put_name(note, name)?;
+    note.extend_from_slice(b": over ")?;
+    put_number(note, u64::from(STEPS))?;
+    note.extend_from_slice(b" steps: a service doesn't assemble it (--steps)\n")
 }
 
 /// Whether the assembly of a source takes more steps than a service allows by default.

@@ -3,8 +3,8 @@
 //! It stands on the match and on the page of a round, and knows no store, device, session or socket. The modules, in
 //! the order in which the data pass:
 //!
-//! - `opponents`: the sources that the words for opponents stand for, also those in folders; `pair`: the warriors that
-//!   sources assemble to;
+//! - `opponents`: the sources that the words for opponents stand for, also those in folders, and `paths` of these; `pair`:
+//!   the warriors that sources assemble to;
 //! - `contest`: the counts and points of one warrior against another, in one role or in both; `rounds`: how each round of
 //!   a match went;
 //! - `lines`: the lines of contests, as text or as `koth_json` has them; `meeting`: one warrior against others, one after
@@ -23,6 +23,7 @@ mod lines;
 mod meeting;
 mod opponents;
 mod pair;
+mod paths;
 pub mod replay;
 mod rounds;
 

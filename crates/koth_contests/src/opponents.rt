@@ -1,9 +1,10 @@
 //! The sources that the words for opponents stand for.
 
-ghost use Rattle.std.specs.Prelude.{◌≡◌, ◌++◌, ◌∷◌, [], string_bytes, OnOk, IfOk, MatchResult};
-ghost use Rattle.{koth_commands.specs.{Pair.IsWarriorOf, Streams.source_name}, koth_contests.specs.{Opponents.{names_of, AreFiles, IsIn, PutsFiles, PutsIn}, Pair.IsNoneOf}};
+ghost use Rattle.std.specs.Prelude.{◌≡◌, ◌++◌, ◌∷◌, [], OnOk, IfOk, MatchResult};
+ghost use Rattle.{koth_commands.specs.{Pair.IsWarriorOf, Streams.source_name}, koth_contests.specs.{Opponents.{names_of, AreFiles, PutsFiles, PutsIn}, Pair.IsNoneOf}};
 
 use crate::pair::{NoWarrior, warrior_from};
+use crate::paths::{path_in, shown_bytes};
 use koth_commands::trouble::Trouble;
 use koth_commands::{Reason, fill, reason_of, source_name};
 use koth_words::Source;
@@ -30,6 +31,8 @@ pub(crate) enum Place {
     Input,
     /// From the file of its name.
     File,
+    /// From the same, if that is no FIFO, device or socket.
+    PlainFile,
     /// Nowhere, for this reason.
     Nowhere(Reason),
 }
@@ -49,6 +52,10 @@ impl<A: Allocator + Copy> Opponent<A> {
         match self.place {
             Place::Input => warrior_from(rt, alloc, settings, Source::Input(name), input),
             Place::File => warrior_from(rt, alloc, settings, Source::File(name), input),
+            Place::PlainFile if is_special(rt, name) => {
+                Err(NoWarrior::Failed(Trouble::file(name, Reason::NoFile)))
+            }
+            Place::PlainFile => warrior_from(rt, alloc, settings, Source::File(name), input),
             Place::Nowhere(reason) => Err(NoWarrior::Failed(Trouble::file(name, reason))),
         }
     }
@@ -62,6 +69,14 @@ pub(crate) fn is_folder<R: Files>(rt: &R, source: Source<'_>) -> bool {
             Ok(found) => found.is_dir(),
             Err(_) => false,
         },
+    }
+}
+
+/// Whether what has this name is neither a file nor a folder. A FIFO isn't opened, since that would wait for its writer.
+fn is_special<R: Files>(rt: &R, path: &str) -> bool {
+    match rt.metadata(path) {
+        Ok(found) => !found.is_file() && !found.is_dir(),
+        Err(_) => false,
     }
 }
 
@@ -217,7 +232,7 @@ fn put_file<A: Allocator + Copy>(
     ensures { OnOk result (PutsIn folder.now (names_of opponents.old.items) (names_of opponents.new.items)) }
 {
     match str::from_utf8(name) {
-        Ok(text) => put_in(alloc, opponents, folder, text, Place::File),
+        Ok(text) => put_in(alloc, opponents, folder, text, Place::PlainFile),
         Err(_) => {
             let shown = shown_bytes(alloc, name)?;
             let nowhere = Place::Nowhere(Reason::NoText);
@@ -238,50 +253,4 @@ fn put_in<A: Allocator + Copy>(
 {
     let path = path_in(alloc, folder, name)?;
     put_one(alloc, opponents, path.as_str(), place)
-}
-
-/// The path of a name in a folder.
-fn path_in<A: Allocator + Copy>(alloc: A, folder: &str, name: &str) -> Result<String<A>, AllocError>
-    ensures { IfOk result (λ path. IsIn folder.now (string_bytes path)) }
-{
-    let between = if folder.ends_with('/') { "" } else { "/" };
-    joined(alloc, folder, between, name)
-}
-
-fn joined<A: Allocator + Copy>(
-    alloc: A,
-    first: &str,
-    second: &str,
-    third: &str,
-) -> Result<String<A>, AllocError>
-    ensures { IfOk result (λ text. string_bytes text ≡ first.now ++ (second.now ++ third.now)) }
-{
-    let mut text = String::from_str(alloc, first)?;
-    text.push_str(second)?;
-    text.push_str(third)?;
-    Ok(text)
-}
-
-/// Bytes as a text: those of ASCII as they are, and each other as `\x` and two digits.
-fn shown_bytes<A: Allocator>(alloc: A, bytes: &[u8]) -> Result<String<A>, AllocError> {
-    let mut text = String::new(alloc);
-    for byte in bytes {
-        if byte.is_ascii() {
-            text.push(char::from(*byte))?;
-        } else {
-            text.push_str("\\x")?;
-            text.push(hex_digit(byte / 16))?;
-            text.push(hex_digit(byte % 16))?;
-        }
-    }
-    Ok(text)
-}
-
-/// A digit in base 16.
-fn hex_digit(digit: u8) -> char {
-    char::from(if digit < 10 {
-        b'0' + digit
-    } else {
-        b'a' + (digit - 10) % 6
-    })
 }

@@ -8,6 +8,7 @@ use crate::arguments::Argument::{
     File, Flag, Number, Page, Port, Ranged, SourceOrInput, Sources, Text, Texts,
 };
 use crate::building::{Row, Takes, described, with_rows};
+use crate::default_steps;
 use crate::options::{FORMAT, HILL_FILE, KEPT_FILE, NAME, PLAIN, TABLE, WARRIOR, help};
 use clap::Command;
 use std::alloc::{AllocError, Global};
@@ -148,7 +149,10 @@ const TO_SERVE: [Row; 4] = [
             ),
             Number(
                 "steps",
-                "Steps that the assembly of a source may take, 0 to 4294967295 [default: 250000]",
+                default_steps!(
+                    help,
+                    "Steps that the assembly of a source may take, 0 to 4294967295"
+                ),
             ),
             Text(
                 "listen",

@@ -10,13 +10,23 @@ use clap::Command;
 use std::alloc::{AllocError, Global};
 use war_types::range_of;
 
-/// A help text with the range of a setting in it.
+/// Gives a macro the steps that the assembly of a source may take in a service, unless `--steps` is given. The help of that option, the service and
+/// the note of `check` all take them from here.
+#[macro_export]
+macro_rules! default_steps {
+    ($user:ident $($more:tt)*) => { $user!(25000 $($more)*) };
+}
+
+/// A help text with the range of a setting in it, or with a default.
 macro_rules! help {
     ($before:literal; $setting:ident; $after:literal) => {
         range_of!($setting, help, $before, $after)
     };
     ($least:literal, $most:literal, $before:literal, $after:literal) => {
         concat!($before, $least, " to ", $most, $after)
+    };
+    ($default:literal, $before:literal) => {
+        concat!($before, " [default: ", $default, "]")
     };
 }
 

@@ -4,7 +4,7 @@ ghost use Rattle.koth_commands.specs.Told.{WritesSome};
 
 use hill_store::Reply;
 use jiff::Timestamp;
-use koth_commands::write_whole;
+use koth_commands::{name_text, write_whole};
 use koth_keeping::seed_hint;
 use koth_service::{Event, HowEnded, LogWrite, PeerEnd};
 use koth_session::line_of;
@@ -202,7 +202,7 @@ impl<'r, R: Clock> Log<'r, R> {
     }
 
     /// The line of a hill that was created: its file, and what shows it to browsers if nothing does.
-    fn created_line<A: Allocator>(
+    fn created_line<A: Allocator + Copy>(
         &self,
         alloc: A,
         service: &Service<'_>,
@@ -211,7 +211,8 @@ impl<'r, R: Clock> Log<'r, R> {
             Some(_) => "",
             None => "; --http PORT shows it to browsers",
         };
-        let hill = service.hill.escape_debug();
+        let name = name_text(alloc, service.hill)?;
+        let hill = str::from_utf8(name.as_slice()).unwrap_or("a hill");
         format!(in alloc; "{} created {}{}\n", self.seconds(), hill, pages)
     }
 

@@ -4,7 +4,7 @@ ghost use Rattle.std.specs.Prelude.{◌≡◌, IfErr, MatchResult};
 ghost use Rattle.{koth_files.specs.Trouble.IsOfHill, koth_server.specs.Serving.{listening_line, Announces, AnnouncesPart}};
 
 use koth_commands::trouble::Trouble;
-use koth_commands::{Cause, Subject, reason_of, write_whole};
+use koth_commands::{Cause, Reason, Subject, reason_of, write_whole};
 use koth_protocol::Line;
 use koth_sockets::PolledSockets;
 use koth_words::Service;
@@ -86,8 +86,16 @@ fn port_failed<'t>(port: u16, error: &io::Error) -> Trouble<'t>
         ErrorKind::OutOfMemory => Trouble::memory(),
         kind => Trouble::stream(Cause {
             subject: Subject::Port(port),
-            reason: reason_of(kind),
+            reason: listening_reason(kind),
         }),
+    }
+}
+
+/// Why a port can't be listened at.
+fn listening_reason(kind: ErrorKind) -> Reason {
+    match kind {
+        ErrorKind::InvalidInput => Reason::NoListening,
+        kind => reason_of(kind),
     }
 }
 

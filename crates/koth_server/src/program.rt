@@ -9,19 +9,22 @@ use hill_file::TryLock;
 use koth_commands::asm::asm;
 use koth_commands::check::check;
 use koth_commands::trouble::Trouble;
-use koth_commands::{Answer, Status, deliver, write_whole};
+use koth_commands::{Answer, Status, deliver, lines_text, write_whole};
 use koth_contests::fight::fight;
 use koth_contests::replay::replay;
 use koth_hills::{perform_page, perform_show, perform_submit, perform_try, tell_lost_header};
 use koth_keeping::{perform_audit, perform_copy, perform_create, perform_migrate, perform_reseed};
 use koth_service::LogWrite;
 use koth_words::{NoRequest, Request, View, parse};
-use std::alloc::{Allocator, Global};
+use std::alloc::{AllocError, Allocator, Global};
 use std::io::{Read, Write};
 use std::net::Net;
 use std::random::RandomSource;
 use std::rt::{Clock, Files};
 use war_types::RawSettings;
+
+/// What is written of arguments that are wrong if there is no memory to say why.
+const UNSHOWN: &[u8] = b"error: the arguments are wrong, and there is no memory to say why\n";
 
 /// Does what the arguments ask for, and returns the exit status: 0 done, 1 refused, 2 wrong arguments, 3 a stream or a file failed, 4 out of
 /// memory. The first of `words` is the program's name. They are parsed on `heap`, and all other memory comes from `alloc`. If the arguments
@@ -214,11 +217,19 @@ fn answer_without<A: Allocator, O: Write, E: Write>(
             deliver(heap, Ok(answer), false, output, errors)
         }
         NoRequest::WordFault(text) => {
-            let _ = write_whole(errors, text.as_bytes());
+            tell_fault(heap, text.as_str(), errors);
             Status::WordFault
         }
         NoRequest::Memory => Trouble::memory().tell(alloc, errors),
     }
+}
+
+/// Writes what is wrong with the arguments. They may be names of files, so nothing that a terminal acts upon is written of them.
+fn tell_fault<E: Write>(heap: Global, text: &str, errors: &mut E) {
+    let _ = match lines_text(heap, text) {
+        Ok(shown) => write_whole(errors, shown.as_slice()),
+        Err(AllocError) => write_whole(errors, UNSHOWN),
+    };
 }
 
 /// The view that the arguments ask for, and else the usual one.

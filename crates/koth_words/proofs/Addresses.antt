@@ -76,7 +76,8 @@ every_address_is_one (inl within) = absurd (omega (arith, within.0))
 every_address_is_one (inr same) = absurd (cc)
 
 pub every_long_address_is_one : ¬ IsOfMany any_address
-every_long_address_is_one within = absurd (omega (arith, within.0))
+every_long_address_is_one (inl within) = absurd (omega (arith, within.0))
+every_long_address_is_one (inr mapped) = absurd (cc)
 
 all_of_a_network : IsIpText (codes "255.255.255.255") (four (255 ∷ 255 ∷ 255 ∷ 255 ∷ []))
 unfolding digits
@@ -95,3 +96,33 @@ pub not_to_a_group : ¬ WritesAddress (Some (codes "224.0.0.1"))
 not_to_a_group one =
     let many : IsOfMany (four (224 ∷ 0 ∷ 0 ∷ 1 ∷ [])) = inl (lit≤ tt, lit≤ tt) in
     one.2 (subst IsOfMany (IsIpText_unique (codes "224.0.0.1") (four (224 ∷ 0 ∷ 0 ∷ 1 ∷ [])) one.0 a_group one.1) many)
+
+-- the same group as an IPv6 address
+mapped_group : IpAddr
+mapped_group = IpAddr.V6 (record { segments = 0 ∷ 0 ∷ 0 ∷ 0 ∷ 0 ∷ 65535 ∷ 57344 ∷ 1 ∷ [] })
+
+a_mapped_group : IsIpText (codes "::ffff:224.0.0.1") mapped_group
+unfolding digits mapped_group
+a_mapped_group = inr (record {
+  head_text = [];
+  tail_text = codes "ffff:224.0.0.1";
+  head = [];
+  tail = 65535 ∷ 57344 ∷ 1 ∷ [];
+  spelled = refl;
+  head_groups = refl;
+  tail_groups = inl (
+    codes "ffff",
+    codes ":224.0.0.1",
+    refl,
+    (((lit≤ tt, (lit≤ tt, (lit≤ tt, (lit≤ tt, (lit≤ tt, tt))))), refl), lit≤ tt),
+    inr (codes "224.0.0.1", 224 ∷ 0 ∷ 0 ∷ 1 ∷ [], refl, refl, record { a = 224; b = 0; c = 0; d = 1; fit = (lit≤ tt, lit≤ tt, lit≤ tt, lit≤ tt); value = refl; spelled = refl }, refl),
+  );
+  room = lit≤ tt;
+  value = refl;
+})
+
+pub not_to_a_mapped_group : ¬ WritesAddress (Some (codes "::ffff:224.0.0.1"))
+unfolding mapped_group
+not_to_a_mapped_group one =
+    let many : IsOfMany mapped_group = inr (refl, inl (lit≤ tt, lit≤ tt)) in
+    one.2 (subst IsOfMany (IsIpText_unique (codes "::ffff:224.0.0.1") mapped_group one.0 a_mapped_group one.1) many)

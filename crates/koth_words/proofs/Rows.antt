@@ -2,9 +2,9 @@
 use Rattle.{std.proofs.Common.{◌≡◌, true, false, true≢false, List, [], ◌∷◌, Some, None, Ok, codes, refl, sym, inl, inr}, clap.specs.Words.{Row, all_of, fault_of, first_of, one_of, subcommand_of, takes}}
 use Rattle.{clap.proofs.OnLiterals.clap_on_literals, clap.specs.declared.error.kind.ErrorKind.ErrorKind, war_types.specs.Settings.settings_of}
 use Rattle.koth_words.specs.{Options.{default_settings, number_given, number_or}, Settings.{chosen_in, given_as, over, preset_settings}}
-use Rattle.koth_words.specs.Words.{AreTaken, AreWrong, AskForHelp, AsksFor, IsAddress}
+use Rattle.koth_words.specs.{declared.serving.TheConstants.STEPS, Words.{AreTaken, AreWrong, AskForHelp, AsksFor, IsAddress}}
 use Rattle.koth_words.specs.Words.{create_named, draw_seed_named, form_named, given_by, given_in, koth_app, matches_named, overwrite_named, reads_input, replays_named, round_in, settings_named}
-use Rattle.{koth_words.specs.{Words.view_named, Sources.{Place, place_named, places_named}, declared.requests.{Form.Form, Round.Round, View.View}}, koth_words.proofs.Addresses.{any_address, every_address, every_address_is_one, every_long_address, every_long_address_is_one, four, not_here, not_to_a_group, not_to_all, not_with_port, this_machine}}
+use Rattle.{koth_words.specs.{Words.view_named, Sources.{Place, place_named, places_named}, declared.requests.{Form.Form, Round.Round, View.View}}, koth_words.proofs.Addresses.{any_address, every_address, every_address_is_one, every_long_address, every_long_address_is_one, four, not_here, not_to_a_group, not_to_a_mapped_group, not_to_all, not_with_port, this_machine}}
 
 -- the premise of `asm` is met by these words
 asm_asks : AsksFor View.Plain (codes "asm") (codes "koth" ∷ codes "asm" ∷ [])
@@ -219,12 +219,12 @@ plain_given = given_by (codes "koth" ∷ codes "serve" ∷ codes "a.hill" ∷ co
 
 services : (number_or 64 (one_of (codes "peers") many_given) ≡ 1024)
     × (number_given 4294967296 (one_of (codes "peers-per-address") many_given) ≡ Some 4)
-    × (number_or 250000 (one_of (codes "steps") many_given) ≡ 5)
+    × (number_or STEPS (one_of (codes "steps") many_given) ≡ 5)
     × (first_of (codes "listen") many_given ≡ Some (codes "0.0.0.0"))
     × (number_given 4294967296 (one_of (codes "http") many_given) ≡ Some 8080)
     × (number_or 64 (one_of (codes "peers") plain_given) ≡ 64)
     × (number_given 4294967296 (one_of (codes "peers-per-address") plain_given) ≡ None)
-    × (number_or 250000 (one_of (codes "steps") plain_given) ≡ 250000)
+    × (number_or STEPS (one_of (codes "steps") plain_given) ≡ 25000)
     × (first_of (codes "listen") plain_given ≡ None)
     × (number_given 4294967296 (one_of (codes "http") plain_given) ≡ None)
     × (replays_named (codes "koth" ∷ codes "serve" ∷ codes "a.hill" ∷ codes "--port=0" ∷ codes "--http=8080" ∷ codes "--replays" ∷ []) ≡ true)
@@ -245,11 +245,23 @@ names_wrong : AreWrong View.Plain (codes "koth" ∷ codes "serve" ∷ codes "a.h
 unfolding clap_on_literals koth_app
 names_wrong = (inr (refl, λ clear. not_here _ clear.4.1), inr (refl, λ clear. not_with_port _ clear.4.1))
 
--- no address of all machines in a network, and none of a group of them
+-- no address of all machines in a network, and none of a group of them, as an IPv6 address neither
 groups_wrong : AreWrong View.Plain (codes "koth" ∷ codes "serve" ∷ codes "a.hill" ∷ codes "--port=0" ∷ codes "--listen=255.255.255.255" ∷ [])
     × AreWrong View.Plain (codes "koth" ∷ codes "serve" ∷ codes "a.hill" ∷ codes "--port=0" ∷ codes "--listen=224.0.0.1" ∷ [])
+    × AreWrong View.Plain (codes "koth" ∷ codes "serve" ∷ codes "a.hill" ∷ codes "--port=0" ∷ codes "--listen=::ffff:224.0.0.1" ∷ [])
 unfolding clap_on_literals koth_app
-groups_wrong = (inr (refl, λ clear. not_to_all clear.4), inr (refl, λ clear. not_to_a_group clear.4))
+groups_wrong = (inr (refl, λ clear. not_to_all clear.4), inr (refl, λ clear. not_to_a_group clear.4), inr (refl, λ clear. not_to_a_mapped_group clear.4))
+
+-- what browsers are shown, and the names that they ask for, need pages
+without_pages : AreWrong View.Plain (codes "koth" ∷ codes "serve" ∷ codes "a.hill" ∷ codes "--port=0" ∷ codes "--replays" ∷ [])
+    × AreWrong View.Plain (codes "koth" ∷ codes "serve" ∷ codes "a.hill" ∷ codes "--port=0" ∷ codes "--host=hill.example" ∷ [])
+    × AsksFor View.Plain (codes "serve") (codes "koth" ∷ codes "serve" ∷ codes "a.hill" ∷ codes "--port=0" ∷ codes "--http=0" ∷ codes "--host=hill.example" ∷ codes "--replays" ∷ [])
+unfolding clap_on_literals koth_app
+without_pages = (
+  inr (refl, λ clear. true≢false (sym clear.3)),
+  inr (refl, λ clear. true≢false (sym clear.3)),
+  ((refl, (refl, refl, refl, refl, tt)), refl),
+)
 
 -- the round that is shown, and the rounds of its match
 rounds : (round_in (given_by (codes "koth" ∷ codes "replay" ∷ codes "a" ∷ codes "b" ∷ codes "--round" ∷ codes "7" ∷ [])) ≡ Round.Number 7)

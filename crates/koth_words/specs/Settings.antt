@@ -1,5 +1,5 @@
 -- The settings that a command's words give: those of a hill that they name, or of a preset, or the default ones, and what options give in place of them.
-use Rattle.std.specs.{Prelude.{◌≡◌, ℕ, ◌==◌, if◌then◌else◌, List, Option, codes, option_map, unwrap_or}, Option.option_map_or, Str.bytes_eq}
+use Rattle.std.specs.{Prelude.{◌≡◌, ℕ, ◌==◌, if◌then◌else◌, List, codes, option_map, unwrap_or}, Option.option_map_or, Str.bytes_eq}
 use Rattle.{clap.specs.Words.{Row, Text, first_of, one_of}, war_types.specs.declared.settings.RawSettings.RawSettings}
 use Rattle.koth_words.specs.{Options.{default_settings, number_given}, declared.settings.Chosen.Chosen, declared.settings.Given.Given}
 

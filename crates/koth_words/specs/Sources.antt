@@ -1,5 +1,5 @@
 -- The sources that words name.
-use Rattle.std.specs.Prelude.{ℕ, ◌+◌, Bool, true, false, if◌then◌else◌, List, [], codes, count_by, map, Option, unwrap_or}
+use Rattle.std.specs.Prelude.{ℕ, ◌+◌, Bool, if◌then◌else◌, List, [], codes, count_by, map, unwrap_or}
 use Rattle.{std.specs.Str.bytes_eq, clap.specs.Words.{Row, Text, all_of, first_of}, koth_words.specs.declared.requests.Source.Source}
 
 -- Where a source is read: at the input, by what messages call it, or in the file of this name.

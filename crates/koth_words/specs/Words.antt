@@ -1,10 +1,10 @@
 -- What a command line asks for. `words` are its arguments, of which the first is the program's name.
 use Rattle.std.specs.Prelude.{◌≡◌, ◌≢◌, ◌⊎◌, ◌==◌, ◌&&◌, ◌||◌, ⊤, ℕ, Bool, true, false, not, nat_le, nat_lt, List, [], ◌∷◌, length, codes, count_by, map, Option, None, Some, IfSome, is_some, option_map, unwrap_or, if◌then◌else◌}
-use Rattle.std.specs.{Option.option_map_or, Net.{Addr.{IsMulticastV4, IsMulticastV6, MatchIp, ipv4_octets}, Grammar.IsIpText}, Str.bytes_eq, List.list_any, declared.net.ip_addr.IpAddr.IpAddr}
+use Rattle.std.specs.{Option.option_map_or, Net.{Addr.{IsIpv4Mapped, IsMulticastV6, IsWithinAt, MatchIp, ipv4_octets, ipv6_segments, low_octets}, Grammar.IsIpText}, Str.bytes_eq, List.list_any, declared.net.ip_addr.IpAddr.IpAddr}
 use Rattle.clap.specs.{Words.{IsAmong, Row, Text, all_of, fault_of, first_of, one_of, subcommand_of, takes}, declared.error.kind.ErrorKind.ErrorKind}
 use Rattle.war_types.specs.declared.settings.RawSettings.{RawSettings}
 use Rattle.koth_words.specs.{Options.{number_below, number_given, number_or}, Settings.{IsGiven, settings_in}, Sources.{inputs_in, is_input, place, place_named, places_named, words_in}, declared.settings.Given.Given}
-use Rattle.koth_words.specs.{declared.requests.Checked.Checked, declared.requests.Fighters.Fighters, declared.requests.Form.Form, declared.requests.NoRequest.NoRequest, declared.requests.Request.Request}
+use Rattle.koth_words.specs.{declared.serving.TheConstants.STEPS, declared.requests.Checked.Checked, declared.requests.Fighters.Fighters, declared.requests.Form.Form, declared.requests.NoRequest.NoRequest, declared.requests.Request.Request}
 use Rattle.koth_words.specs.{declared.requests.Request.TheVariants.{Asm, Check, Fight, Create, Submit, Show, Serve, Audit, Migrate, Page, Replay, Try, Copy, Reseed}, declared.requests.Round.Round, declared.requests.View.View}
 unfoldable pub use Rattle.koth_options.specs.Commands.{koth_app}
 
@@ -104,9 +104,13 @@ round_in given =
 abbrev pub IsAddress : Option Text → IpAddr → Type 0
 IsAddress text address = IsIpText (unwrap_or text (codes "127.0.0.1")) address
 
--- an address of many machines at once: of a group, or of all in a network
+-- the octets of an IPv4 address of many machines at once: of a group, or of all in a network
+abbrev pub AreOfMany : List ℕ → Type 0
+AreOfMany octets = IsWithinAt octets 0 224 239 ⊎ (octets ≡ 255 ∷ 255 ∷ 255 ∷ 255 ∷ [])
+
+-- an address of many machines at once; an IPv4 address may be written as an IPv6 one
 abbrev pub IsOfMany : IpAddr → Type 0
-IsOfMany address = MatchIp address (λ a. IsMulticastV4 a ⊎ (ipv4_octets a ≡ 255 ∷ 255 ∷ 255 ∷ 255 ∷ [])) IsMulticastV6
+IsOfMany address = MatchIp address (λ a. AreOfMany (ipv4_octets a)) (λ a. IsMulticastV6 a ⊎ (IsIpv4Mapped (ipv6_segments a) × AreOfMany (low_octets a)))
 
 -- the text, if it is given, writes an address of one machine, without a port
 abbrev pub WritesAddress : Option Text → Type 0
@@ -165,10 +169,14 @@ uses_settings given = not (has_option (codes "port") given && has_setting given 
 abbrev pub has_place : View → List Row → Bool
 has_place view given = not (has_option (codes "lost") given && is_table view && not (has_option (codes "output") given))
 
+-- what browsers are shown, and the names that they ask for, are given only where there are pages
+abbrev pub has_pages : List Row → Bool
+has_pages given = not ((has_flag (codes "replays") given || has_option (codes "host") given) && not (has_option (codes "http") given))
+
 -- what is given has what it needs
 abbrev pub has_needs : View → List Row → Bool
 has_needs view given = uses_settings given && has_place view given
-    && not (has_flag (codes "with-seed") given && not (has_flag (codes "settings") given))
+    && not (has_flag (codes "with-seed") given && not (has_flag (codes "settings") given)) && has_pages given
 
 -- nothing that the program refuses beside `clap`, where tables are in this view
 abbrev pub AreClear : View → List Row → Type 0
@@ -247,7 +255,7 @@ Asks entered (Serve settings service) = (entered.0 ≡ codes "serve") × (settin
     × (service.port ≡ number_below 65536 0 (one_of (codes "port") entered.1))
     × (service.peers ≡ number_or 64 (one_of (codes "peers") entered.1))
     × (service.peers_per_address ≡ number_given 4294967296 (one_of (codes "peers-per-address") entered.1))
-    × (service.steps ≡ number_or 250000 (one_of (codes "steps") entered.1))
+    × (service.steps ≡ number_or STEPS (one_of (codes "steps") entered.1))
     × IsAddress (first_of (codes "listen") entered.1) service.listen
     × (service.connections ≡ number_given 4294967296 (one_of (codes "connections") entered.1))
     × (service.http ≡ number_given 4294967296 (one_of (codes "http") entered.1))

@@ -128,6 +128,9 @@ fn unmet_need(view: View, given: &ArgMatches<'_>) -> Option<&'static str>
     if flag_given(given, "with-seed") & !flag_given(given, "settings") {
         return Some("the argument '--with-seed' needs '--settings'");
     }
+    if (flag_given(given, "replays") | option_given(given, "host")) & !option_given(given, "http") {
+        return Some("the arguments '--replays' and '--host <NAME>' need '--http <NUMBER>'");
+    }
     None
 }
 

@@ -1,21 +1,27 @@
 //! What the arguments that `clap` took give a service.
 
-ghost use Rattle.std.specs.Prelude.{◌≡◌, ◌↔◌, [], Some, codes, map, unwrap_or, IfOk, IsTrue};
+ghost use Rattle.std.specs.{Prelude.{◌≡◌, ◌↔◌, [], Some, codes, map, unwrap_or, IfOk, IsTrue}, Net.Addr.ipv4_octets};
 ghost use Rattle.{clap.specs.Words.{all_of, first_of, found_of, one_of, rows_of}, koth_words.specs.Options.{number_below, number_given, number_or}};
-ghost use Rattle.koth_words.specs.Words.{has_flag, text_or_none, HasAddress, IsAddress, IsOfMany, WritesAddress};
+ghost use Rattle.koth_words.specs.Words.{has_flag, text_or_none, AreOfMany, HasAddress, IsAddress, IsOfMany, WritesAddress};
 
 use crate::given::{file_named, flag_given, text_given, texts_given};
 use crate::options::{number_given, number_if_given};
 use crate::requests::Service;
 use clap::ArgMatches;
+use koth_options::default_steps;
 use std::alloc::{AllocError, Global};
-use std::net::IpAddr;
+use std::net::{IpAddr, Ipv4Addr};
 
 /// Peers that are served at once, unless `--peers` is given.
 const PEERS: u32 = 64;
 
+/// A number as it is.
+macro_rules! number {
+    ($number:literal) => { $number };
+}
+
 /// Steps that the assembly of a source may take in a service, unless `--steps` is given.
-pub const STEPS: u32 = 250_000;
+pub const STEPS: u32 = default_steps!(number);
 
 /// The address to listen at, unless `--listen` is given.
 const THIS_MACHINE: &str = "127.0.0.1";
@@ -30,7 +36,7 @@ pub(crate) fn service_named<'w>(
     ensures peers { IfOk result (λ service. service.peers ≡ number_or 64 (one_of (codes "peers") (rows_of (found_of matches.now)))) }
     ensures peers_per_address { IfOk result (λ service. service.peers_per_address
         ≡ number_given 4294967296 (one_of (codes "peers-per-address") (rows_of (found_of matches.now)))) }
-    ensures steps { IfOk result (λ service. service.steps ≡ number_or 250000 (one_of (codes "steps") (rows_of (found_of matches.now)))) }
+    ensures steps { IfOk result (λ service. service.steps ≡ number_or STEPS (one_of (codes "steps") (rows_of (found_of matches.now)))) }
     ensures listen { IfOk result (λ service. IsAddress (first_of (codes "listen") (rows_of (found_of matches.now))) service.listen) }
     ensures connections { IfOk result (λ service. service.connections
         ≡ number_given 4294967296 (one_of (codes "connections") (rows_of (found_of matches.now)))) }
@@ -86,14 +92,25 @@ fn writes_address(text: &str) -> bool
     }
 }
 
-/// Whether an address is one of many machines at once, to which nobody can connect: 224.0.0.0/4, 255.255.255.255 or ff00::/8.
+/// Whether an address is one of many machines at once, to which nobody can connect: 224.0.0.0/4, 255.255.255.255, one of these as an IPv6 address, or
+/// ff00::/8.
 fn is_of_many(address: IpAddr) -> bool
     ensures { IsTrue result ↔ IsOfMany address }
 {
     match address {
-        IpAddr::V4(address) => address.is_multicast() || address.is_broadcast(),
-        IpAddr::V6(address) => address.is_multicast(),
+        IpAddr::V4(address) => is_of_many_v4(address),
+        IpAddr::V6(address) => match address.to_ipv4_mapped() {
+            Some(mapped) => is_of_many_v4(mapped),
+            None => address.is_multicast(),
+        },
     }
+}
+
+/// The same of an IPv4 address.
+fn is_of_many_v4(address: Ipv4Addr) -> bool
+    ensures { IsTrue result ↔ AreOfMany (ipv4_octets address) }
+{
+    address.is_multicast() || address.is_broadcast()
 }
 
 /// The port. `clap` refuses a command line without it.

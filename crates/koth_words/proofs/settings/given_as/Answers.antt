@@ -1,6 +1,6 @@
 -- The settings are in their ranges.
 use Rattle.{std.proofs.Common.{◌≡◌, ◌∙◌, ap}, war_types.specs.{declared.settings.RawSettings.RawSettings, Settings.settings_of}}
-use Rattle.{koth_words.specs.Settings.{given_as, limit_given}, koth_words.proofs.Back.{given_back, limit_of_core}}
+use Rattle.{koth_words.specs.Settings.{given_as}, koth_words.proofs.Back.{given_back, limit_of_core}}
 use Rattle.koth_words.proofs.settings.given_as.Goals as goal
 
 pub returns-clause-back : goal.returns-clause-back

@@ -1,6 +1,6 @@
 -- All words are places.
-use Rattle.std.proofs.Common.{◌∙◌, List, Bor, ap, map, refl}
-use Rattle.{std.proofs.lemmas.List.take_all, clap.specs.Walk.Text, koth_words.{specs.Sources.{input_name, place_at, words_in}, proofs.Texts.{file_texts, placed}}}
+use Rattle.std.proofs.Common.{◌∙◌, Bor, ap, map, refl}
+use Rattle.{std.proofs.lemmas.List.take_all, clap.specs.Walk.Text, koth_words.{specs.Sources.{place_at}, proofs.Texts.{file_texts, placed}}}
 use Rattle.koth_words.proofs.sources.sources_named.Goals as goal
 
 pub returns : goal.returns
