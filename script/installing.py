@@ -11,7 +11,9 @@ from sources import checksum, is_current, of_all, read, stamp, sum_of, tree
 PLACE, RECORD = "libexec/koth/koth", "libexec/koth/koth.txt"
 TEXTS = {"koth.1": "share/man/man1/koth.1", "koth.bash": "share/bash-completion/completions/koth", "_koth": "share/zsh/site-functions/_koth"}
 UNITS = (".service", ".socket", ".timer")
-EXPECTED = b"/usr/local/"  # where the units of the repository have the program
+EXPECTED = b"/usr/local/bin/koth"  # where the units of the repository have the program
+HOMES = "/home/", "/root/", "/run/user/"  # what `ProtectHome=yes` hides from a unit
+ODD = "'\"`$\\"  # what the units and /bin/sh read otherwise than it stands
 WRAPPER = """#!/bin/sh
 # Runs koth in 1 GiB of address space, or in as many KiB as KOTH_MEMORY says. A growth past that is refused, and koth answers MEMORY and goes on.
 memory=${KOTH_MEMORY-%(most)d}
@@ -33,17 +35,31 @@ class Record:
         self.files, self.folders, self.told = {}, [], {}
         for line in text.split("\n"):
             word, _, rest = line.partition(" ")
-            if word == "file":
-                of_file, _, place = rest.partition(" ")
+            of_file, _, place = rest.partition(" ")
+            # no install has written what leads out of its folder
+            if word == "file" and is_below(place):
                 self.files[place] = of_file
-            elif word == "folder":
+            elif word == "folder" and is_below(rest):
                 self.folders.append(rest)
-            elif word:
+            elif word not in ("", "file", "folder"):
                 self.told[word] = rest
 
     def bytes(self):
         lines = [*(f"{word} {rest}" for word, rest in self.told.items()), *(f"folder {it}" for it in self.folders)]
         return os.fsencode("\n".join([*lines, *(f"file {of_file} {place}" for place, of_file in self.files.items()), ""]))
+
+
+def is_below(place):
+    """Whether this place doesn't lead out of the folder that it is counted from, by its words."""
+    return not os.path.isabs(place) and ".." not in place.split("/")
+
+
+def is_inside(prefix, place):
+    """Whether this is the prefix or below it, by links too."""
+    if os.path.normpath(place) == ".":
+        return True
+    folder, root = os.path.realpath(os.path.dirname(os.path.normpath(f"{prefix}/{place}"))), os.path.realpath(prefix)
+    return is_below(place) and os.path.commonpath([folder, root]) == root
 
 
 def record_of(prefix):
@@ -67,8 +83,16 @@ def texts(prefix):
     for name in sorted(it for it in os.listdir(f"{HERE}/warriors") if it.endswith(".red")):
         found[f"share/koth/warriors/{name}"] = read(f"{HERE}/warriors/{name}"), 0o644
     for name in sorted(it for it in os.listdir(f"{HERE}/share") if it.endswith(UNITS)):
-        found[f"share/koth/systemd/{name}"] = read(f"{HERE}/share/{name}").replace(EXPECTED, os.fsencode(f"{prefix}/")), 0o644
+        found[f"share/koth/systemd/{name}"] = unit(prefix, read(f"{HERE}/share/{name}")), 0o644
     return found
+
+
+def unit(prefix, text):
+    """This unit, with the program where it is installed: as /bin/sh reads it in a line of systemd, to which `%` is a sign."""
+    program = shlex.quote(f"{prefix}/bin/koth").replace("%", "%%")
+    if prefix.startswith(HOMES):
+        text = text.replace(b"ProtectHome=yes", b"ProtectHome=read-only")
+    return text.replace(EXPECTED, os.fsencode(program))
 
 
 def said_by_git(*words):
@@ -90,8 +114,17 @@ def commit():
     return f"{found}, with changes that are not committed" if found and is_changed else found or "unknown"
 
 
+def refuse_prefix(prefix):
+    """Ends the call if this name would be read otherwise in a unit, a record or by /bin/sh. What is installed below one can be taken away."""
+    if not prefix.isprintable() or any(it in prefix for it in ODD):
+        raise Fault(f"nothing can be installed below {ascii(prefix)}: quotes, `$`, backslashes, line feeds and what can't be printed may not be in its name")
+
+
 def look_first(prefix, places):
-    """Ends the call if the folders of these places can't be written: the program may take half an hour to prove."""
+    """Ends the call if the folders of these places can't be written, or lead elsewhere: the program may take half an hour to prove."""
+    for place in places:
+        if not is_inside(prefix, place):
+            raise Fault(f"nothing can be installed below {prefix}: a link leads out of it from {os.path.dirname(f'{prefix}/{place}')}")
     for at in {os.path.dirname(f"{prefix}/{it}") for it in places}:
         while not os.path.lexists(at):
             at = os.path.dirname(at)
@@ -151,9 +184,11 @@ def take_away(prefix, files):
     """Removes those of these files that are as they were installed."""
     for place, of_file in files.items():
         path = f"{prefix}/{place}"
-        if ".." in place.split("/") or not os.path.lexists(path):
+        if not os.path.lexists(path):
             continue
-        if is_as(path, of_file):
+        if not is_inside(prefix, place):
+            put(f"left {path}: a link leads out of {prefix} there")
+        elif is_as(path, of_file):
             os.remove(path)
             put(f"took away {path}")
         else:
@@ -187,6 +222,7 @@ def install(prefix):
     """Proves and builds the program if need be, and puts it below the prefix with what belongs to it."""
     import building
 
+    refuse_prefix(prefix)
     look_first(prefix, [PLACE, *texts(prefix)])
     refuse_strangers(prefix, texts(prefix))
     if not is_current():
@@ -195,7 +231,7 @@ def install(prefix):
     before, now = refuse_strangers(prefix, files), new_record(prefix, files)
     building.heed_no_signals()
     made = make_folders(prefix, files)
-    now.folders = [it for it in [*before.folders, *made] if os.path.isdir(f"{prefix}/{it}")]
+    now.folders = [it for it in [*before.folders, *made] if is_below(it) and os.path.isdir(f"{prefix}/{it}")]
     try:
         write_all(prefix, {**files, RECORD: (now.bytes(), 0o644)})
     except OSError:
@@ -203,14 +239,14 @@ def install(prefix):
         raise
     gone = {place: of_file for place, of_file in before.files.items() if place not in files}
     take_away(prefix, gone)
-    remove_folders(prefix, {*before.folders} & {os.path.dirname(it) for it in gone})
+    remove_folders(prefix, [it for it in {*before.folders} & {os.path.dirname(it) for it in gone} if is_inside(prefix, it)])
     if f"{prefix}/bin" not in os.get_exec_path():
         put(f"{prefix}/bin is not on the path")
     return 0
 
 
 def found_record(prefix):
-    found = record_of(prefix)
+    found = record_of(prefix) if is_inside(prefix, RECORD) else None
     if not found:
         raise Fault(f"nothing is installed below {prefix}: there is no {prefix}/{RECORD}", DIFFERS)
     return found
@@ -230,12 +266,12 @@ def check(prefix):
 
 
 def uninstall(prefix):
-    """Takes away what was installed below the prefix, and nothing else."""
+    """Takes away what was installed below the prefix, and nothing else, whatever its record says."""
     record = found_record(prefix)
     take_away(prefix, record.files)
     os.remove(f"{prefix}/{RECORD}")
     put(f"took away {prefix}/{RECORD}")
-    remove_folders(prefix, record.folders)
+    remove_folders(prefix, [it for it in record.folders if is_inside(prefix, it)])
     return 0
 
 
