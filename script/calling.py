@@ -111,7 +111,7 @@ def run(program, most, words):
     try:
         os.execve(program, [program if isinstance(program, str) else UNPACKED, *words], os.environ)
     except OSError as fault:
-        # what is told takes memory
+        # the sentence takes memory
         resource.setrlimit(resource.RLIMIT_AS, (before, hard))
         why = fault.strerror
     raise Fault(f"the program can't start: {why}. It is made for Linux on x86-64 with glibc {LIBC} or newer")

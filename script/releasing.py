@@ -223,7 +223,7 @@ def proved_and_compared():
     """Proves and builds the program here, if that is not done, and compares it with the released one."""
     import building
 
-    # a line that can't be read is told before anything is proved
+    # a line that can't be read ends the call before anything is proved
     released()
     building.bring_up_to_date(is_here=True)
     return compared(stamp())
