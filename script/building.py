@@ -11,8 +11,8 @@ import signal
 import subprocess
 import time
 
-from calling import HERE, OUT, PROGRAM, Fault, id_of, kit, put, say
-from sources import LATE, clock, crates, folders_of, is_current, newest, of_all, paths, sums, tree, uses, write_stamp
+from calling import HERE, OUT, PROGRAM, Fault, hold_streams, id_of, kit, put, say
+from sources import ELSEWHERE, LATE, clock, crates, folders_of, here, is_current, newest, note_proved, of_all, paths, sums, tree, uses
 
 LIBRARIES = f"{OUT}/libraries"
 TARGET = "x86_64-unknown-linux-gnu"
@@ -141,16 +141,18 @@ class Proof(Run):
         if newest(self.name) >= self.began - LATE / 1e9:
             raise Fault(f"the sources of {self.name} were written while they were proved: call again, and they are proved as they are now")
         with open(self.kept, "w", encoding="ascii") as file:
-            file.write(self.sum)
+            file.write(f"{self.sum}\n{here()}")
         return int(found[1])
 
 
-def is_made(name, sum_of_it):
+def where_made(name, sum_of_it):
+    """Where the library that is kept of this crate was proved, if it is that of these sources, else nothing."""
     try:
         with open(f"{LIBRARIES}/{name}.sum", encoding="ascii") as file:
-            return file.read() == sum_of_it
+            found, _, where = file.read().partition("\n")
     except (OSError, ValueError):
-        return False
+        return None
+    return (where or ELSEWHERE) if found == sum_of_it else None
 
 
 def seconds(name):
@@ -171,10 +173,9 @@ def clock_seconds(names, chain, processors):
     return max(sum(map(seconds, names)) / processors, 0.5 * max((chain[it] for it in names), default=0))
 
 
-def prove_libraries(stands_on, wanted, lock):
-    """Proves all that the program stands on, crates that don't stand on each other side by side."""
-    chain, done = chains(stands_on), []
-    proved = {it for it in stands_on if it != "koth" and is_made(it, wanted[it])}
+def prove_libraries(stands_on, wanted, taken, lock):
+    """Proves all that the program stands on but the libraries that are taken, crates that don't stand on each other side by side."""
+    chain, done, proved = chains(stands_on), [], {*taken}
     left = sorted((it for it in stands_on if it not in proved and it != "koth"), key=lambda it: -chain[it])
     processors, total, running = len(os.sched_getaffinity(0)), len(stands_on), []
     jobs = min(processors, MOST_JOBS, 1 + int((most_by_memory() - 1) / MORE_JOBS))
@@ -223,17 +224,19 @@ def make_program(lock):
     return linked
 
 
-def build(by, lock):
-    """Proves and builds the program by the kit that calls itself so."""
+def build(by, is_here, lock):
+    """Proves and builds the program by the kit that calls itself so, with `is_here` over no library that another clone has proved."""
     began, stands_on, found = clock(), crates(), tree()
-    of_sources = of_all(by, found)
-    prove_libraries(stands_on, sums(by, found), lock)
+    of_sources, wanted, own = of_all(by, found), sums(by, found), here()
+    made = {it: where_made(it, wanted[it]) for it in stands_on if it != "koth"}
+    taken = {it: where for it, where in made.items() if where == own or where and not is_here}
+    prove_libraries(stands_on, wanted, taken, lock)
     say(f"{len(stands_on) - 1} of {len(stands_on)} proved; koth, the program, begins")
     linked = make_program(lock)
     if of_all(by, tree()) != of_sources:
         raise Fault("sources were written while they were proved: call again, and they are proved as they are now")
     os.replace(linked, PROGRAM)
-    write_stamp(by, found, of_sources, began)
+    note_proved(by, of_sources, began, found, own if {*taken.values()} <= {own} else ELSEWHERE)
 
 
 def id_of_kit():
@@ -272,19 +275,17 @@ def in_turn(lock):
             pause()
 
 
-def bring_up_to_date():
-    """Proves and builds the program, unless another call does it meanwhile."""
-    # no file that is opened here gets the number of a standard stream that is closed
-    for _ in range(3):
-        os.open(os.devnull, os.O_RDWR)
+def bring_up_to_date(is_here=False):
+    """Proves and builds the program, unless another call does it meanwhile; with `is_here` all of it in this clone."""
+    hold_streams()
     try:
         os.makedirs(LIBRARIES, exist_ok=True)
         with noted_signals(), open(f"{OUT}/build.lock", "ab") as lock:
             in_turn(lock)
-            if not is_current():
+            if not is_current(is_here):
                 by = id_of_kit()
-                say("proving and building what has changed; the first time this takes about half an hour")
-                build(by, lock.fileno())
+                say("proving and building what has changed; the first time this takes 25 to 45 minutes")
+                build(by, is_here, lock.fileno())
                 say("proved and built")
     except OSError as fault:
         if fault.errno in (errno.EACCES, errno.EPERM, errno.EROFS) and str(fault.filename).startswith(OUT):

@@ -1,4 +1,4 @@
-"""What a call of koth does: it looks whether the program is proved from the sources as they are, has it built if not, and runs it.
+"""What a call of koth does: it looks which program is that of the sources as they are, has it built if none is, and runs it.
 
 All that a call needs which finds nothing changed stands here, and imports next to nothing.
 """
@@ -9,11 +9,15 @@ import time
 HERE = os.path.dirname(os.path.dirname(os.path.realpath(__file__)))
 OUT = f"{HERE}/crates/koth/out"
 PROGRAM = f"{OUT}/koth"
-# a stamp: the kit, the checksums of the sources and of the program, and each file and folder whose times tell whether something changed
-STAMP = f"{OUT}/koth.sum"
+RELEASE = f"{HERE}/release"
+UNPACKED = f"{RELEASE}/out/koth"
+# a stamp has four lines, then its own time, which a copy hasn't, and then each file and folder whose times tell whether something changed. That of what was
+# proved: the kit, the checksums of the sources and of the program, and where it was proved. That of what was released: a sentence that each call says, or
+# nothing, the checksums of its line and of the program, and where it was unpacked.
+STAMP, UNPACKED_STAMP = f"{OUT}/koth.sum", f"{RELEASE}/out/koth.sum"
 MEMORY, LEAST_MEMORY = 1 << 20, 8192  # KiB
+LIBC = "2.34"
 WRONG, NOT_BUILT = 2, 70
-TRIED = ("asm", "check", "fight")
 
 
 class Fault(Exception):
@@ -35,6 +39,12 @@ def put(text, place=1):
         os.write(place, os.fsencode(f"{text}\n"))
     except OSError:
         pass
+
+
+def hold_streams():
+    """After this no file that is opened gets the number of a standard stream that is closed."""
+    for _ in range(3):
+        os.open(os.devnull, os.O_RDWR)
 
 
 def kit():
@@ -61,24 +71,26 @@ def kit_id():
         return None
 
 
-def is_untouched():
-    """Whether the program and all that it was proved from are older than its stamp, and the kit on the path, if there is one, is the stamp's.
-    A stamp of a time to come was made before the clock was set: it tells nothing."""
+def untouched(stamp):
+    """The first four lines of this stamp, if all that it names is older than it, else nothing. A stamp of a time to come was made before the clock was set:
+    it tells nothing."""
     try:
-        with open(STAMP, encoding="utf-8", errors="surrogateescape") as file:
-            kit_then, _, _, *paths = file.read().split("\n")
+        with open(stamp, encoding="utf-8", errors="surrogateescape") as file:
+            lines = file.read().split("\n")
             then = os.fstat(file.fileno()).st_mtime_ns
-        if then > time.time_ns():
-            return False
+        if then > time.time_ns() or lines[4:5] != [str(then)]:
+            return None
         at, stat = os.open(HERE, os.O_PATH), os.stat
-        for path in paths:
-            found = stat(path, dir_fd=at)
-            if found.st_ctime_ns >= then or found.st_mtime_ns >= then:
-                return False
-        os.close(at)
-    except (FileNotFoundError, NotADirectoryError, ValueError):
-        return False
-    return kit_id() in (None, kit_then)
+        try:
+            for path in lines[5:]:
+                found = stat(path, dir_fd=at)
+                if found.st_ctime_ns >= then or found.st_mtime_ns >= then:
+                    return None
+        finally:
+            os.close(at)
+    except (FileNotFoundError, NotADirectoryError, PermissionError, ValueError):
+        return None
+    return lines[:4]
 
 
 def memory():
@@ -89,58 +101,52 @@ def memory():
     return int(said)
 
 
-def run(most, words):
-    """Becomes the program, with this limit or a lower one that stands already."""
+def run(program, most, words):
+    """Becomes the program at this path or descriptor, with this limit or a lower one that stands already."""
     import resource
 
-    _, hard = resource.getrlimit(resource.RLIMIT_AS)
+    before, hard = resource.getrlimit(resource.RLIMIT_AS)
     wanted = most << 10
     resource.setrlimit(resource.RLIMIT_AS, (wanted if hard == resource.RLIM_INFINITY else min(wanted, hard), hard))
-    os.execv(PROGRAM, [PROGRAM, *words])
-
-
-def run_unproved(words):
-    """Becomes the program as `rt try` builds and runs it, in a folder of its own, on copies of the files that are named."""
-    if not words or words[0] not in TRIED:
-        commands = f"{', '.join(TRIED[:-1])} and {TRIED[-1]}"
-        raise Fault(f"--unproved stands before {commands} alone: it runs on copies of the files, so what another command writes would be lost", WRONG)
-    data, given = [], words[:1]
-    for word in words[1:]:
-        name = f"{len(given)}.{os.path.basename(word)}".replace("=", "-")
-        is_file = os.path.isfile(word)
-        data += ["--data", f"{name}={os.path.realpath(word)}"] if is_file else []
-        given.append(name if is_file else word)
-    say("building without a proof, in a minute or two: nothing of the program that runs now is proved")
-    os.chdir(f"{HERE}/crates/koth")
     try:
-        os.execvp("rt", ["rt", "try", *data, "--", *given])
-    except FileNotFoundError:
-        raise Fault("the Rattle kit's command rt is not on the path") from None
+        os.execve(program, [program if isinstance(program, str) else UNPACKED, *words], os.environ)
+    except OSError as fault:
+        # the sentence takes memory
+        resource.setrlimit(resource.RLIMIT_AS, (before, hard))
+        why = fault.strerror
+    raise Fault(f"the program can't start: {why}. It is made for Linux on x86-64 with glibc {LIBC} or newer")
 
 
 def call(words):
     """Does what these arguments say, and returns the status, unless it becomes the program."""
-    if words[:1] == ["--unproved"]:
-        run_unproved(words[1:])
     if words[:1] in (["--install"], ["--uninstall"]):
         import installing
 
         return installing.call(words)
+    if words[:1] == ["--prove"]:
+        import releasing
+
+        return releasing.prove(words[1:])
     most = memory()
-    if not is_untouched():
-        import sources
+    told = untouched(STAMP)
+    if told and kit_id() in (None, told[0]):
+        return run(PROGRAM, most, words)
+    told = untouched(UNPACKED_STAMP)
+    if told and not (told[0] and kit()):
+        if told[0]:
+            say(told[0])
+        return run(UNPACKED, most, words)
+    import releasing
 
-        if not sources.is_current():
-            import building
-
-            building.bring_up_to_date()
-    return run(most, words)
+    return run(releasing.chosen().at, most, words)
 
 
 def sentence_of(fault):
-    """What the system refused, in a sentence."""
+    """A fault, or what the system refused, in a sentence."""
     import errno
 
+    if isinstance(fault, Fault):
+        return str(fault)
     if fault.errno in (errno.ENOSPC, errno.EDQUOT):
         return f"the disk is full, so {fault.filename or 'a file'} can't be written: make room and call again; what is proved so far is kept"
     return f"{fault.filename}: {fault.strerror}" if fault.filename else str(fault.strerror or fault)

@@ -5,8 +5,8 @@ import os
 import shlex
 import time
 
-from calling import HERE, LEAST_MEMORY, MEMORY, PROGRAM, WRONG, Fault, kit_id, put
-from sources import checksum, is_current, of_all, read, stamp, sum_of, tree
+from calling import HERE, LEAST_MEMORY, MEMORY, WRONG, Fault, put
+from sources import checksum, of_all, read, sum_of, tree
 
 PLACE, RECORD = "libexec/koth/koth", "libexec/koth/koth.txt"
 TEXTS = {"koth.1": "share/man/man1/koth.1", "koth.bash": "share/bash-completion/completions/koth", "_koth": "share/zsh/site-functions/_koth"}
@@ -25,7 +25,8 @@ fi
 printf '%%s\\n' "koth: KOTH_MEMORY is a number of KiB, at least %(least)d, and not '$memory'" >&2
 exit 2
 """
-DIFFERS, USAGE = 1, "usage: koth --install [PREFIX], koth --install --check [PREFIX] or koth --uninstall [PREFIX]"
+DIFFERS = 1
+USAGE = "usage: koth --install [PREFIX], koth --install --prove [PREFIX], koth --install --check [PREFIX] or koth --uninstall [PREFIX]"
 
 
 class Record:
@@ -195,16 +196,16 @@ def take_away(prefix, files):
             put(f"left {path}, which was changed")
 
 
-def new_record(prefix, files):
-    """The record of an install of these files."""
-    by = kit_id() or "unknown"
-    kit, of_sources, program = stamp() or [by, of_all(by, tree()), sum_of(PROGRAM)]
+def new_record(prefix, files, program):
+    """The record of an install of these files, the program among them."""
     found = Record()
     found.files = {place: checksum(data) for place, (data, _) in files.items()}
-    if found.files[PLACE] != program:
+    if found.files[PLACE] != program.sum:
         raise Fault("another call has built the program meanwhile: call again")
     date = time.strftime("%Y-%m-%dT%H:%M:%SZ", time.gmtime())
-    found.told = {"koth": f"below {prefix}", "commit": commit(), "kit": kit, "date": date, "program": program, "sources": of_sources}
+    found.told = {"koth": f"below {prefix}", "commit": commit(), "kit": program.kit, "date": date, "program": program.sum, "sources": program.sources}
+    word, _, rest = program.how.partition(" ")
+    found.told.update({word: rest, **({"note": program.note} if program.note else {})})
     return found
 
 
@@ -218,17 +219,21 @@ def refuse_strangers(prefix, files):
     return before
 
 
-def install(prefix):
-    """Proves and builds the program if need be, and puts it below the prefix with what belongs to it."""
+def install(prefix, proves):
+    """Puts the program below the prefix with what belongs to it; with `proves` the one that is proved here, once that is compared with the released one."""
     import building
+    import releasing
 
     refuse_prefix(prefix)
     look_first(prefix, [PLACE, *texts(prefix)])
     refuse_strangers(prefix, texts(prefix))
-    if not is_current():
-        building.bring_up_to_date()
-    files = {PLACE: (read(PROGRAM), 0o755), **texts(prefix)}
-    before, now = refuse_strangers(prefix, files), new_record(prefix, files)
+    sentence, is_same = releasing.proved_and_compared() if proves else ("", None)
+    if is_same is False:
+        put(f"{sentence}; nothing was installed")
+        return DIFFERS
+    program = releasing.chosen()
+    files = {PLACE: (program.bytes(), 0o755), **texts(prefix)}
+    before, now = refuse_strangers(prefix, files), new_record(prefix, files, program)
     building.heed_no_signals()
     made = make_folders(prefix, files)
     now.folders = [it for it in [*before.folders, *made] if is_below(it) and os.path.isdir(f"{prefix}/{it}")]
@@ -242,6 +247,8 @@ def install(prefix):
     remove_folders(prefix, [it for it in {*before.folders} & {os.path.dirname(it) for it in gone} if is_inside(prefix, it)])
     if f"{prefix}/bin" not in os.get_exec_path():
         put(f"{prefix}/bin is not on the path")
+    if sentence:
+        put(sentence)
     return 0
 
 
@@ -260,8 +267,9 @@ def check(prefix):
         put(f"{it} is not as it was installed" if os.path.lexists(it) else f"{it} is gone")
     if not changed:
         put(f"the program and all else below {prefix} are as they were installed, from commit {record.told.get('commit')}")
+    how = f"the released {record.told['released']}" if "released" in record.told else f"proved {record.told.get('proved', '')}".rstrip()
     is_same = of_all(record.told.get("kit"), tree()) == record.told.get("sources")
-    put(f"the program is proved from {'the sources that stand' if is_same else 'other sources than those that stand'} in {HERE}")
+    put(f"the program is {how}, and made from {'the sources that stand' if is_same else 'other sources than those that stand'} in {HERE}")
     return DIFFERS if changed or not is_same else 0
 
 
@@ -278,10 +286,12 @@ def uninstall(prefix):
 def call(words):
     """Does what these arguments say, and returns the status."""
     what, given = words[0], words[1:]
-    is_check = what == "--install" and "--check" in given
-    if is_check:
-        given.remove("--check")
+    flag = next((it for it in ("--check", "--prove") if what == "--install" and it in given), "")
+    if flag:
+        given.remove(flag)
     if len(given) > 1 or any(not it or it.startswith("-") for it in given):
         raise Fault(USAGE, WRONG)
     prefix = os.path.abspath(given[0] if given else "/usr/local" if os.geteuid() == 0 else os.path.expanduser("~/.local"))
-    return (check if is_check else install if what == "--install" else uninstall)(prefix)
+    if what == "--install" and flag != "--check":
+        return install(prefix, flag == "--prove")
+    return (check if flag else uninstall)(prefix)

@@ -1,4 +1,4 @@
-"""What the program is made of, and whether it is proved from what stands there now: the bytes of the files decide, and not when they were written."""
+"""What the program is made of, and whether it was proved from what stands there now: the bytes of the files decide, and not when they were written."""
 
 import hashlib
 import os
@@ -8,6 +8,7 @@ from calling import HERE, PROGRAM, STAMP, kit_id
 
 PARTS = ("src", "specs", "proofs")
 LATE = 20_000_000  # nanoseconds by which the system's times of files may be behind its clock
+ELSEWHERE = "several clones"  # where a program was proved that is made of libraries of more than one clone
 
 
 def uses():
@@ -97,9 +98,9 @@ def of_all(kit, found):
 
 
 def looked_at(found):
-    """The files and folders of this tree, one of which changes whenever the sources do, or the program."""
+    """The files and folders of this tree, one of which changes whenever the sources do."""
     below = [it[len(HERE) + 1 :] for crate, folders in found.items() for it in [f"{HERE}/crates/{crate}", *paths(folders)]]
-    return ["crates.txt", PROGRAM[len(HERE) + 1 :], *below]
+    return ["crates.txt", *below]
 
 
 def clock():
@@ -107,46 +108,62 @@ def clock():
     return time.time_ns() - LATE
 
 
-def write_stamp(kit, found, of_sources, began):
-    """Notes that the program is proved by this kit from the sources of this tree, whose checksum this is. Both were taken after `began`."""
-    made = f"{STAMP}.{os.getpid()}"
+def here():
+    """What tells this clone on this machine from others, without telling what the machine calls itself."""
+    try:
+        machine = read("/etc/machine-id").strip() or os.uname().nodename.encode()
+    except OSError:
+        machine = os.uname().nodename.encode()
+    return checksum(b"koth " + machine + b" " + os.fsencode(HERE))
+
+
+def write_stamp(stamp, told, began, found, *others):
+    """Writes these four lines to this stamp, which goes by the sources of this tree and these other files as they were when it began."""
+    made = f"{stamp}.{os.getpid()}"
     try:
         with open(made, "w", encoding="utf-8", errors="surrogateescape") as file:
-            file.write("\n".join([kit, of_sources, sum_of(PROGRAM), *looked_at(found)]))
+            os.utime(made, ns=(began, began))
+            # some file systems keep a time less exactly
+            began = os.stat(made).st_mtime_ns
+            file.write("\n".join([*told, str(began), *(it[len(HERE) + 1 :] for it in others), *looked_at(found)]))
         os.utime(made, ns=(began, began))
-        os.replace(made, STAMP)
+        os.replace(made, stamp)
     finally:
         if os.path.lexists(made):
             os.remove(made)
 
 
+def note_proved(kit, of_sources, began, found, where):
+    """Notes that the program was proved there, by this kit, from the sources of this tree, whose checksum this is. Both were taken after `began`."""
+    write_stamp(STAMP, [kit, of_sources, sum_of(PROGRAM), where], began, found, PROGRAM)
+
+
 def stamp():
-    """The kit, the checksum of the sources and that of the program, or nothing if no stamp is there."""
+    """The kit, the checksums of the sources and of the program, and where it was proved, or nothing if no stamp is there."""
     try:
         with open(STAMP, encoding="utf-8", errors="surrogateescape") as file:
-            return (file.read().split("\n") + ["", ""])[:3]
-    except (FileNotFoundError, NotADirectoryError):
+            return (file.read().split("\n") + [""] * 3)[:4]
+    except (FileNotFoundError, NotADirectoryError, PermissionError):
         return None
 
 
-def is_of_rt():
-    """Whether the program is newer than all sources. If the stamp is not of this program, `rt ci` has then just proved and built it."""
-    return max(os.path.getmtime(f"{HERE}/crates.txt"), *map(newest, crates())) <= os.path.getmtime(PROGRAM)
+def proved(by, found):
+    """The stamp of the program, if that was proved from what this tree holds, by this kit or, if it is none, by any."""
+    told = stamp()
+    if not told or by not in (None, told[0]) or not os.path.isfile(PROGRAM) or sum_of(PROGRAM) != told[2]:
+        return None
+    return told if of_all(told[0], found) == told[1] else None
 
 
-def is_current():
-    """Whether the program is proved from what the sources hold, by the kit on the path if there is one. Its stamp is renewed if that can be."""
-    began, kit, before = clock(), kit_id(), stamp()
-    if not os.path.isfile(PROGRAM):
-        return False
-    by, found = kit or (before[0] if before else None), tree()
-    of_sources = by and of_all(by, found)
-    is_of_stamp = before and before[2] == sum_of(PROGRAM)
-    if before[:2] != [by, of_sources] if is_of_stamp else not is_of_rt():
-        return False
+def is_current(is_here=False):
+    """Whether the program was proved from what the sources hold, by the kit on the path if there is one; with `is_here`, all of it in this clone."""
+    told = proved(kit_id(), tree())
+    return bool(told) and (not is_here or told[3] == here())
+
+
+def renew(told, began, found):
+    """Renews the stamp of the program, if that can be written."""
     try:
-        if by:
-            write_stamp(by, found, of_sources, began)
+        note_proved(*told[:2], began, found, told[3])
     except OSError:
         pass
-    return True
