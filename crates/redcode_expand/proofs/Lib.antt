@@ -2,6 +2,7 @@ mod Words
 mod Unchanged
 mod PlacedNames
 mod Marks
+mod Visits
 mod GoingOn
 mod Rows
 mod RowsOfBlocks

@@ -3,8 +3,11 @@
 //! A block without a copy counts nothing and may be met millions of times. So a `FOR` is paired with its `ROF` once, and the marks of both
 //! say whether there is anything to read.
 
-ghost use Rattle.std.specs.Prelude.{◌≡◌, ◌+◌, ◌<◌, ◌∷◌, drop, length, IfOk};
-ghost use Rattle.{redcode_lines.specs.Views.line_read, redcode_expand.specs.Marks.{edge_of, has_operands, is_bare, is_long, line_in, shortened, AreMarked, IsMarked, IsNextRof}};
+ghost use Rattle.std.specs.Prelude.{◌≡◌, ◌+◌, ◌<◌, ◌≤◌, ◌^◌, ◌∷◌, true, drop, length, IfOk};
+ghost use Rattle.{redcode_text.specs.Tokens.pieces, redcode_lines.specs.{Block.parsed, Views.line_read}};
+ghost use Rattle.redcode_expand.specs.declared.marked_lines.Edge.TheVariants.{For};
+ghost use Rattle.redcode_expand.specs.Steps.{bytes_of, read_steps, rof_steps, steps_at, visit_steps};
+ghost use Rattle.redcode_expand.specs.Marks.{edge_of, has_join, has_operands, is_bare, is_long, line_in, shortened, AreMarked, IsMarked, IsNextRof};
 
 use crate::entry::MOST_TOKENS;
 use crate::same_counts::SameCounts;
@@ -120,21 +123,45 @@ impl<'l, 's, A: Allocator + Copy> MarkedLines<'l, 's, A> {
         line_at(self.lines, at).number()
     }
 
-    /// The steps of a visit within this number of blocks: its tokens are read. If an `&` is among them, they are read again for each block,
-    /// and each join copies a name, which may have all bytes of the line.
+    /// The steps of a visit within this number of blocks. A `FOR` pays for its `ROF` too, since a block without a copy is passed at once.
     pub(crate) fn steps(&self, at: usize, blocks: usize) -> u64
         requires { at < length self.now }
-        ensures { 0 < result }
+        ensures some { 0 < result }
+        ensures most { result ≤ steps_at (visit_steps blocks) self.now at }
+        ensures least { steps_at read_steps self.now at < 2 ^ 64 → steps_at read_steps self.now at ≤ result }
     {
-        let line = self.shortened(at);
-        let tokens = (line.front.len() as u64).saturating_add(line.tokens.len() as u64);
-        let times = if self.marks[at].joins {
-            let bytes = bytes_of(line.front).saturating_add(bytes_of(line.tokens));
-            (blocks as u64).saturating_add(bytes / 16)
-        } else {
-            0
-        };
-        1u64.saturating_add(tokens.saturating_mul(times.saturating_add(1)))
+        let joins = self.mark(at).joins;
+        let own = visit_steps(self.shortened(at), joins, blocks);
+        own.saturating_add(self.rof_steps(at, blocks))
+    }
+
+    /// The steps of the `ROF` of a `FOR`, if there is something to read in it; of any other line 0.
+    fn rof_steps(&self, at: usize, blocks: usize) -> u64
+        requires { at < length self.now }
+        ensures most { result ≤ rof_steps (visit_steps blocks) (edge_of (line_in self.now at).word) (parsed (drop (at + 1) self.now)).1 }
+        ensures least { rof_steps read_steps (edge_of (line_in self.now at).word) (parsed (drop (at + 1) self.now)).1 < 2 ^ 64 → rof_steps read_steps (edge_of (line_in self.now at).word) (parsed (drop (at + 1) self.now)).1 ≤ result }
+    {
+        match self.mark(at).edge {
+            Edge::For => self.end_steps(at, blocks),
+            Edge::Rof | Edge::Neither => 0,
+        }
+    }
+
+    /// The steps of the `ROF` that belongs to the `FOR` at index `at`.
+    fn end_steps(&self, at: usize, blocks: usize) -> u64
+        requires { at < length self.now }
+        ensures most { result ≤ rof_steps (visit_steps blocks) For (parsed (drop (at + 1) self.now)).1 }
+        ensures least { rof_steps read_steps For (parsed (drop (at + 1) self.now)).1 < 2 ^ 64 → rof_steps read_steps For (parsed (drop (at + 1) self.now)).1 ≤ result }
+    {
+        let rof = self.mark(at).rof;
+        if rof >= self.len() {
+            return 0;
+        }
+        let end = self.mark(rof);
+        if end.is_bare {
+            return 0;
+        }
+        visit_steps(self.reading(rof), end.joins, blocks)
     }
 
     /// What the walk has to know of it.
@@ -153,6 +180,7 @@ impl Mark {
         ensures edge { result.edge ≡ edge_of (line_read line.entry).word }
         ensures bare { result.is_bare ≡ is_bare (line_read line.entry) }
         ensures long { result.is_long ≡ is_long (line_read line.entry) }
+        ensures joins { result.joins ≡ has_join (line_read line.entry) }
         ensures rof { result.rof ≡ rof }
         ensures count { result.count ≡ count }
     {
@@ -167,8 +195,28 @@ impl Mark {
     }
 }
 
-/// The bytes of all tokens.
-fn bytes_of(tokens: &[Token<'_>]) -> u64 {
+/// The steps of a visit to a line within this number of blocks: it is walked over, and its tokens are read. If an `&` is among them, they
+/// are read again for each block, and each join copies a name, which may have all bytes of the line. Outside of blocks it joins nothing.
+fn visit_steps(line: Reading<'_, '_>, joins: bool, blocks: usize) -> u64
+    requires { joins ≡ true → has_join (line_read line) ≡ true }
+    ensures some { 0 < result }
+    ensures most { result ≤ visit_steps blocks (line_read line.entry) }
+    ensures least { read_steps (line_read line.entry) < 2 ^ 64 → read_steps (line_read line.entry) ≤ result }
+{
+    let tokens = (line.front.len() as u64).saturating_add(line.tokens.len() as u64);
+    let read = tokens.saturating_add(1);
+    if blocks == 0 || !joins {
+        return read;
+    }
+    let bytes = bytes_of(line.front).saturating_add(bytes_of(line.tokens));
+    let times = (blocks as u64).saturating_add(bytes / 16);
+    read.saturating_add(tokens.saturating_mul(times))
+}
+
+/// The bytes of all tokens. They are few beside those that a step reads, so counting them takes none.
+fn bytes_of(tokens: &[Token<'_>]) -> u64
+    ensures { result ≤ bytes_of (pieces tokens.now) }
+{
     let mut bytes: u64 = 0;
     for token in tokens {
         bytes = bytes.saturating_add(token.text.len() as u64);
