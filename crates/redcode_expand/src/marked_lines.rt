@@ -3,16 +3,17 @@
 //! A block without a copy counts nothing and may be met millions of times. So a `FOR` is paired with its `ROF` once, and the marks of both
 //! say whether there is anything to read.
 
-ghost use Rattle.std.specs.Prelude.{◌≡◌, ◌+◌, ◌<◌, ◌≤◌, ◌^◌, ◌∷◌, true, drop, length, IfOk};
-ghost use Rattle.{redcode_text.specs.Tokens.pieces, redcode_lines.specs.{Block.parsed, Views.line_read}};
+ghost use Rattle.std.specs.Prelude.{◌≡◌, ◌+◌, ◌<◌, ◌≤◌, ◌^◌, ◌∷◌, drop, length, IfOk};
+ghost use Rattle.redcode_lines.specs.{Block.parsed, Views.line_read};
 ghost use Rattle.redcode_expand.specs.declared.marked_lines.Edge.TheVariants.{For};
-ghost use Rattle.redcode_expand.specs.Steps.{bytes_of, read_steps, rof_steps, steps_at, visit_steps};
+ghost use Rattle.redcode_expand.specs.Steps.{read_steps, rof_steps, steps_at, visit_steps};
 ghost use Rattle.redcode_expand.specs.Marks.{edge_of, has_join, has_operands, is_bare, is_long, line_in, shortened, AreMarked, IsMarked, IsNextRof};
 
 use crate::entry::MOST_TOKENS;
 use crate::same_counts::SameCounts;
+use crate::visits::visit_steps;
 use redcode_lines::{LineForm, Reading, SourceLine, has_and, line_at};
-use redcode_text::{Token, Word};
+use redcode_text::Word;
 use std::alloc::{AllocError, Allocator};
 use std::marker::Model;
 
@@ -195,35 +196,6 @@ impl Mark {
     }
 }
 
-/// The steps of a visit to a line within this number of blocks: it is walked over, and its tokens are read. If an `&` is among them, they
-/// are read again for each block, and each join copies a name, which may have all bytes of the line. Outside of blocks it joins nothing.
-fn visit_steps(line: Reading<'_, '_>, joins: bool, blocks: usize) -> u64
-    requires { joins ≡ true → has_join (line_read line) ≡ true }
-    ensures some { 0 < result }
-    ensures most { result ≤ visit_steps blocks (line_read line.entry) }
-    ensures least { read_steps (line_read line.entry) < 2 ^ 64 → read_steps (line_read line.entry) ≤ result }
-{
-    let tokens = (line.front.len() as u64).saturating_add(line.tokens.len() as u64);
-    let read = tokens.saturating_add(1);
-    if blocks == 0 || !joins {
-        return read;
-    }
-    let bytes = bytes_of(line.front).saturating_add(bytes_of(line.tokens));
-    let times = (blocks as u64).saturating_add(bytes / 16);
-    read.saturating_add(tokens.saturating_mul(times))
-}
-
-/// The bytes of all tokens. They are few beside those that a step reads, so counting them takes none.
-fn bytes_of(tokens: &[Token<'_>]) -> u64
-    ensures { result ≤ bytes_of (pieces tokens.now) }
-{
-    let mut bytes: u64 = 0;
-    for token in tokens {
-        bytes = bytes.saturating_add(token.text.len() as u64);
-    }
-    bytes
-}
-
 /// Whether a line has too many operands in each copy.
 fn is_long(line: Reading<'_, '_>) -> bool
     ensures { result ≡ is_long (line_read line.entry) }
@@ -259,7 +231,7 @@ fn edge_of(word: Option<Word>) -> Edge
     }
 }
 
-/// Marks each line, the last one first, so that the `ROF`s after a line are known.
+/// Marks each line, the last one first, so that the `ROF`s after a line are known. Each is read once, before the first step.
 fn mark_all<A: Allocator>(lines: &[SourceLine<'_, A>], marks: &mut [Mark], same: &mut SameCounts<A>)
     requires { length marks.old ≡ length lines.now }
     ensures { AreMarked 0 lines.now marks.new }

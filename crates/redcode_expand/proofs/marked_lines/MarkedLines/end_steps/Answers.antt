@@ -1,6 +1,6 @@
 use Rattle.std.proofs.Common.{arith, sym, ap, ◌∙◌, ◌<◌, length}
 use Rattle.{redcode_lines.specs.Line.SourceLine, redcode_expand.specs.{Marks.{has_join, line_in}, Steps.{read_steps, visit_steps}}}
-use Rattle.redcode_expand.proofs.Visits.{bare-end, full-end, no-end}
+use Rattle.redcode_expand.proofs.VisitSteps.{bare-end, full-end, no-end}
 use Rattle.redcode_expand.proofs.marked_lines.MarkedLines.end_steps.Goals as goal
 
 pub returns-then-rof-len-clause-least : goal.returns-then-rof-len-clause-least

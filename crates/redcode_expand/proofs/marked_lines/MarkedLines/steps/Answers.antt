@@ -1,5 +1,5 @@
 use Rattle.std.proofs.Common.{sym, ap, ◌∙◌}
-use Rattle.redcode_expand.{specs.Marks.{has_join, line_in}, proofs.Visits.{joins-shortened}}
+use Rattle.redcode_expand.{specs.Marks.{has_join, line_in}, proofs.VisitSteps.{joins-shortened}}
 use Rattle.redcode_expand.proofs.marked_lines.MarkedLines.steps.Goals as goal
 
 pub visit_steps-own-requires : goal.visit_steps-own-requires

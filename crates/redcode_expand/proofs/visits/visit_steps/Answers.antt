@@ -1,6 +1,6 @@
 use Rattle.{std.proofs.{Common.{arith, ◌+◌, ◌*◌, ◌/◌, ◌≤◌}, lemmas.List.length-map}, redcode_text.specs.Tokens.piece_of, redcode_lines.specs.Views.line_read}
-use Rattle.redcode_expand.{specs.Steps.{bytes_of, read_steps, tokens_of}, proofs.Visits.{visit-joins, visit-least}}
-use Rattle.redcode_expand.proofs.marked_lines.visit_steps.Goals as goal
+use Rattle.redcode_expand.{specs.Steps.{bytes_of, read_steps, tokens_of}, proofs.VisitSteps.visit-joins}
+use Rattle.redcode_expand.proofs.visits.visit_steps.Goals as goal
 
 pub returns-clause-most : goal.returns-clause-most
 returns-clause-most c =
@@ -12,4 +12,4 @@ returns-clause-most c =
     let read : bytes ≤ bytes_of line.front + bytes_of line.tokens = omega (arith, c.saturating_add-bytes.ensures, c.bytes_of.ensures, c.bytes_of-2.ensures) in
     let less : times ≤ c.args.blocks + bytes / 16 = omega (arith, c.saturating_add-times.ensures) in
     let product : c.saturating_mul.result ≤ tokens * times = omega (arith, c.saturating_mul.ensures) in
-    omega (arith, c.saturating_add.ensures, c.saturating_add-read.ensures, few, product, visit-joins c.args.blocks line tokens times bytes c.if-blocks-eq0.false (c.requires c.if-not-joins.false) few less read)
+    omega (arith, c.saturating_add.ensures, c.read_steps-read.ensures.most, product, visit-joins c.args.blocks line tokens times bytes c.if-blocks-eq0.false (c.requires c.if-not-joins.false) few less read)
