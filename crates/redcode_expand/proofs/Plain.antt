@@ -75,7 +75,7 @@ line-few : (n : ℕ) (text : List ℕ) → reads (line_by n text (directive_of t
 line-few n text = line-by n text (directive_of text) (from-within (after_blanks text) (length text) (blanks-few text))
 
 reads-both : (xs ys : List SourceLine) → reads (xs ++ ys) ≡ reads xs + reads ys
-reads-both [] ys = refl
+reads-both [] ys = omega arith
 reads-both (x ∷ xs) ys = omega (arith, reads-both xs ys)
 
 -- the bytes of lines, each with its line feed

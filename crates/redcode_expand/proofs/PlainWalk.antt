@@ -1,13 +1,12 @@
 -- The walk over a source without FOR and EQU: no block is open, and no EQU is added.
-use Rattle.std.proofs.Common.{◌≡◌, ℕ, zero, suc, ◌+◌, ◌≤◌, ◌<◌, Bool, true, false, ◌&&◌, List, [], ◌∷◌, drop, take, length, Option, Some, None, Result, Ok, Err, refl, sym, ap, ◌∙◌, subst, arith}
+use Rattle.std.proofs.Common.{◌≡◌, ℕ, zero, suc, ◌+◌, ◌≤◌, ◌<◌, true, false, List, [], ◌∷◌, drop, take, length, Option, Some, None, Ok, Err, refl, sym, ap, ◌∙◌, subst, arith}
 use Rattle.std.proofs.{Common.{inl, inr}, lemmas.Bool.{and_parts, cases_Bool, true≢false}}
-use Rattle.{std.specs.Bool.⊤, std.specs.Prelude.{if◌then◌else◌}, redcode_names.specs.{Gives.◌>>=◌, Cut.cut_equs}, redcode_expand.specs.{Cut.{cut_walk, with_cut}, Marks.{edge_of, is_long, line_in, shortened}}}
+use Rattle.{redcode_names.specs.{Gives.◌>>=◌, Cut.cut_equs}, redcode_expand.specs.{Cut.{cut_walk, with_cut}, Marks.{edge_of, is_long, line_in, shortened}}}
 use Rattle.redcode_expand.specs.Steps.{are_plain, is_plain_word, read_steps, reads, rof_steps, steps_at, token_steps, visit_steps}
-use Rattle.redcode_expand.specs.Walk.{WalkState, counted, labelled, lined, placed, placed_by, step_as, step_by, unmatched, until_end, walk, walk_all, walk_begin, with_line, with_word, worded, is_equ_word}
-use Rattle.redcode_expand.proofs.{Words.{AsmFault, RawSettings, Walked, Piece, SourceLine, Blocks, Parsed, parsed, behind_by, labels_of, behind_labels, EquList, Word, LineForm}, Marks.line-drop, Counted.{Holds, bind}, AddedEqus.labelled-equs}
+use Rattle.redcode_expand.specs.Walk.{WalkState, counted, labelled, placed, placed_by, step_as, step_by, unmatched, until_end, walk, walk_all, walk_begin, with_word, worded, is_equ_word}
+use Rattle.redcode_expand.proofs.{Words.{RawSettings, Walked, Piece, SourceLine, Blocks, parsed, behind_by, labels_of, behind_labels, EquList, Word, LineForm}, Marks.line-drop, Counted.{Holds, bind}, AddedEqus.labelled-equs}
 use Rattle.{redcode_expand.specs.declared.marked_lines.Edge.Edge, std.proofs.Common.{◌≢◌}}
 use Rattle.redcode_text.specs.declared.vocabulary.Word.TheVariants as words
-use Rattle.redcode_lines.specs.declared.line.LineKind.TheVariants as lines
 use Rattle.redcode_lines.specs.declared.reading.LineForm.TheVariants as forms
 
 -- ---- its steps
@@ -105,20 +104,24 @@ step-none s forms.Author line st plain none = bind NoEqus NoEqus (counted line.n
 until-none : (f : WalkState → Walked) (st : WalkState) → NoEqus st → Holds NoEqus (f st) → Holds NoEqus (until_end f st)
 until-none f st none holds = grind arith
 
-walk-none : (s : RawSettings) (ls : List SourceLine) (st : WalkState) → are_plain ls ≡ true → NoEqus st → Holds NoEqus (walk s [] (parsed ls).0 st)
-walk-none s [] st plain none = none
-walk-none s (l ∷ ls) st plain none = by-word l.word refl
+-- a line, and those after it
+walk-on : (s : RawSettings) (l : SourceLine) (ls : List SourceLine) (st : WalkState) → is_plain_word l.word ≡ true → NoEqus st
+    → ((now : WalkState) → NoEqus now → Holds NoEqus (walk s [] (parsed ls).0 now)) → Holds NoEqus (walk s [] (parsed (l ∷ ls)).0 st)
+walk-on s l ls st plain none rest = by-word l.word refl
   where
-    parts : (is_plain_word l.word ≡ true) × (are_plain ls ≡ true)
-    parts = and_parts (is_plain_word l.word) (are_plain ls) plain
-
     on : Holds NoEqus (until_end (step_as s l) st >>= walk s [] (parsed ls).0)
-    on = bind NoEqus NoEqus (until_end (step_as s l) st) (walk s [] (parsed ls).0) (until-none (step_as s l) st none (step-none s l.form l st parts.0 none)) (λ now is. walk-none s ls now parts.1 is)
+    on = bind NoEqus NoEqus (until_end (step_as s l) st) (walk s [] (parsed ls).0) (until-none (step_as s l) st none (step-none s l.form l st plain none)) rest
 
     by-word : (word : Option Word) → word ≡ l.word → Holds NoEqus (walk s [] (behind_by word l (parsed ls)).0 st)
-    by-word (Some words.For) is = absurd (true≢false (sym parts.0 ∙ ap is_plain_word (sym is)))
+    by-word (Some words.For) is = absurd (true≢false (sym plain ∙ ap is_plain_word (sym is)))
     by-word (Some words.Rof) is = none
     by-word _ is = on
+
+walk-none : (s : RawSettings) (ls : List SourceLine) (st : WalkState) → are_plain ls ≡ true → NoEqus st → Holds NoEqus (walk s [] (parsed ls).0 st)
+walk-none s [] st plain none = none
+walk-none s (l ∷ ls) st plain none =
+    let parts = and_parts (is_plain_word l.word) (are_plain ls) plain in
+    walk-on s l ls st parts.0 none (λ now is. walk-none s ls now parts.1 is)
 
 unmatched-none : (rofs : List (SourceLine × Blocks)) (st : WalkState) → NoEqus st → Holds NoEqus (unmatched rofs st)
 unmatched-none [] st none = none

@@ -1,9 +1,9 @@
 -- The steps of a visit to a line.
-use Rattle.std.proofs.Common.{◌≡◌, ◌≢◌, ℕ, zero, suc, ◌+◌, ◌*◌, ◌/◌, ◌≤◌, ◌<◌, true, false, Bool, not, ◌&&◌, ◌||◌, List, [], ◌∷◌, length, drop, refl, sym, ap, ◌∙◌, arith, subst}
-use Rattle.std.proofs.{Common.{inl, inr}, Math.Nat.mul-le-mul, lemmas.Bool.{true≢false, cases_Bool, or_parts}, lemmas.List.drop_all}
+use Rattle.std.proofs.Common.{◌≡◌, ◌≢◌, ℕ, zero, suc, ◌+◌, ◌*◌, ◌/◌, ◌≤◌, ◌<◌, true, false, Bool, ◌||◌, List, length, drop, refl, sym, ap, ◌∙◌, arith}
+use Rattle.std.proofs.{Common.{inl, inr}, Math.Nat.mul-le-mul, lemmas.Bool.{true≢false, cases_Bool}, lemmas.List.drop_all}
 use Rattle.std.specs.Prelude.{if◌then◌else◌}
 use Rattle.redcode_expand.specs.{Marks.{has_join, is_bare, is_long, line_in, shortened, IsNextRof}, Steps.{bytes_of, read_steps, rof_steps, tokens_of, visit_steps}, declared.marked_lines.Edge.Edge}
-use Rattle.redcode_expand.proofs.{Words.{SourceLine, Blocks, Parsed, parsed, has_and}, Marks.ends-with, Short.long-parts}
+use Rattle.redcode_expand.proofs.{Words.{SourceLine, Blocks, parsed, has_and}, Marks.ends-with, Short.long-parts}
 
 pub visit-least : (n : ℕ) (line : SourceLine) → read_steps line ≤ visit_steps n line
 visit-least zero line = omega arith

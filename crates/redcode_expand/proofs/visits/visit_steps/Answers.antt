@@ -1,5 +1,5 @@
 use Rattle.{std.proofs.{Common.{arith, ◌+◌, ◌*◌, ◌/◌, ◌≤◌}, lemmas.List.length-map}, redcode_text.specs.Tokens.piece_of, redcode_lines.specs.Views.line_read}
-use Rattle.redcode_expand.{specs.Steps.{bytes_of, read_steps, tokens_of}, proofs.VisitSteps.visit-joins}
+use Rattle.redcode_expand.{specs.Steps.{bytes_of, tokens_of}, proofs.VisitSteps.visit-joins}
 use Rattle.redcode_expand.proofs.visits.visit_steps.Goals as goal
 
 pub returns-clause-most : goal.returns-clause-most

@@ -1,5 +1,5 @@
-use Rattle.std.proofs.Common.{arith, sym, ap, ◌∙◌, ◌<◌, length}
-use Rattle.{redcode_lines.specs.Line.SourceLine, redcode_expand.specs.{Marks.{has_join, line_in}, Steps.{read_steps, visit_steps}}}
+use Rattle.std.proofs.Common.{arith, sym, ap, ◌∙◌}
+use Rattle.{redcode_expand.specs.{Marks.{has_join}, Steps.{read_steps, visit_steps}}}
 use Rattle.redcode_expand.proofs.VisitSteps.{bare-end, full-end, no-end}
 use Rattle.redcode_expand.proofs.marked_lines.MarkedLines.end_steps.Goals as goal
 
