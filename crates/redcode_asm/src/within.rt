@@ -21,9 +21,9 @@ pub enum Unassembled {
 /// Assembles a source of Redcode under these settings, within a budget of steps.
 ///
 /// An answer that is given is that of `assemble`. A step is a line that is walked over, a token that is read, replaced or worked out,
-/// or a name that is looked up: a copy of a line is walked over too. What the written lines say is not counted: that is less than 4,096
-/// lines of 512 operands. A source of L bytes takes fewer than
-/// 537,010,177 (L + 1) (L + 16,385) + 2^32 steps, and one of more than 65,536 bytes takes none.
+/// or a name that is looked up: a copy of a line is walked over too, and a `FOR` pays for its `ROF`. What the written lines say is not
+/// counted: that is less than 4,096 lines of 512 operands. A source of L bytes in which no line is a `FOR` or an `EQU` takes L + 1 steps
+/// at most, any source fewer than 537,010,177 (L + 1) (L + 16,385) + 2^32, and one of more than 65,536 bytes takes none.
 pub fn assemble_within<A: Allocator + Copy>(
     alloc: A,
     source: &[u8],

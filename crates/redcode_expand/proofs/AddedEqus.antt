@@ -27,7 +27,7 @@ held P m x holds is = subst (Holds P) is holds
 abbrev IsSame : WalkState → WalkState → Type 0
 IsSame st new = (new.names.equs ≡ st.names.equs) × (new.before ≡ st.before)
 
-labelled-equs : (s : RawSettings) (line : ℕ) (labels : List (List ℕ)) (st : WalkState) → Holds (IsSame st) (labelled s line labels st)
+pub labelled-equs : (s : RawSettings) (line : ℕ) (labels : List (List ℕ)) (st : WalkState) → Holds (IsSame st) (labelled s line labels st)
 labelled-equs s line labels st =
     bind (λ names. names.equs ≡ st.names.equs) (IsSame st) (all_defined s line st.before labels st.names) (λ names. Ok (record st { names = names })) (all-equs s line st.before labels st.names)
     (λ names same. (same, refl))

@@ -2,6 +2,9 @@ mod Words
 mod Unchanged
 mod PlacedNames
 mod Marks
+mod VisitSteps
+mod Plain
+mod PlainWalk
 mod GoingOn
 mod Rows
 mod RowsOfBlocks

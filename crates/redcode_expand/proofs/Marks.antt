@@ -1,7 +1,7 @@
 -- Lines that are marked: the ROF that belongs to each FOR, found from the last line on.
 use Rattle.std.proofs.Common.{◌≡◌, ℕ, ◌+◌, ◌≤◌, ◌<◌, arith, true, false, Bool, not, List, [], ◌∷◌, length, drop, Option, Some, Ok, refl, sym, ap, subst, ◌∙◌, nat_eq}
 use Rattle.{std.specs.Prelude.{slice_set}, std.proofs.{lemmas.Bool.{and_parts, eqb-false, eqb-true}, lemmas.List.{drop_all, drop_more, get_or-set_same, get_or-set_other, length-set}}}
-use Rattle.redcode_expand.specs.{declared.marked_lines.Mark.Mark, Marks.{edge_of, is_bare, is_long, line_in, mark_at, no_mark, AreFromRof, AreMarked, IsMarked, IsNextRof, IsSameCount}}
+use Rattle.redcode_expand.specs.{declared.marked_lines.Mark.Mark, Marks.{edge_of, has_join, is_bare, is_long, line_in, mark_at, no_mark, AreFromRof, AreMarked, IsMarked, IsNextRof, IsSameCount}}
 use Rattle.redcode_expand.specs.{Walk.{WalkState, closed}, declared.marked_lines.Edge.Edge}
 use Rattle.redcode_expand.proofs.Words.{RawSettings, Piece, SourceLine, Blocks, Parsed, parsed, with_body, behind_by, behind_for, behind_rof, has_tokens, labels_of, Counter, in_copy, in_copies, Word, has_and}
 use Rattle.redcode_text.specs.declared.vocabulary.Word.TheVariants as words
@@ -131,13 +131,14 @@ closed-bare s cs line st word bare = closed-none s cs line st words.Rof word (ba
 
 -- what was marked of a line that was read
 pub marked-is : (ls : List SourceLine) (at rof : ℕ) (line read : SourceLine) (mark : Mark) → at < length ls → drop at ls ≡ line ∷ drop (at + 1) ls → read ≡ line
-    → mark.edge ≡ edge_of read.word → mark.is_bare ≡ is_bare read → mark.is_long ≡ is_long read → mark.rof ≡ rof → IsNextRof ls (at + 1) rof → IsSameCount ls at mark.count → IsMarked ls at mark
-marked-is ls at rof line read mark some first is edge bare long own next same =
+    → mark.edge ≡ edge_of read.word → mark.is_bare ≡ is_bare read → mark.is_long ≡ is_long read → mark.joins ≡ has_join read → mark.rof ≡ rof → IsNextRof ls (at + 1) rof → IsSameCount ls at mark.count → IsMarked ls at mark
+marked-is ls at rof line read mark some first is edge bare long joins own next same =
     let here : read ≡ line_in ls at = is ∙ sym (line-first ls at line some first) in
     record {
       edge = edge ∙ ap (λ (l : SourceLine). edge_of l.word) here;
       bare = bare ∙ ap is_bare here;
       long = long ∙ ap is_long here;
+      joins = joins ∙ ap has_join here;
       rof = subst (IsNextRof ls (at + 1)) (sym own) next;
       count = same;
     }

@@ -94,7 +94,7 @@ step-same s line forms.Author word ts us st is word-is limited same = absurd (tr
 
 -- ---- a line within copies
 
-long-parts : (a b c d : Bool) → (a && (b && (not c && not d))) ≡ true → (b ≡ true) × (c ≡ false) × (d ≡ false)
+pub long-parts : (a b c d : Bool) → (a && (b && (not c && not d))) ≡ true → (b ≡ true) × (c ≡ false) × (d ≡ false)
 long-parts a b c d h = grind arith
 
 short-long : (s : RawSettings) (cs : List Counter) (line : SourceLine) (st : WalkState) → is_long line ≡ true

@@ -12,5 +12,7 @@ pub mod Rest
 pub mod Kept
 -- what it knows of lines before it reads them
 pub mod Marks
+-- what a step is
+pub mod Steps
 -- the most steps that it takes
 pub mod Budget

@@ -1,5 +1,5 @@
 -- What the walk knows of the lines of a source before it reads them. No part of the definition: a shorter way to the same.
-use Rattle.std.specs.Prelude.{◌≡◌, ℕ, ◌+◌, ◌<◌, ◌≤◌, Bool, true, false, not, ◌&&◌, nat_lt, if◌then◌else◌, List, [], ◌∷◌, length, take, drop, Option, Some, None, ⊤, slice_index_or}
+use Rattle.std.specs.Prelude.{◌≡◌, ℕ, ◌+◌, ◌<◌, ◌≤◌, Bool, true, false, not, ◌&&◌, ◌||◌, nat_lt, if◌then◌else◌, List, [], ◌∷◌, length, take, drop, Option, Some, None, ⊤, slice_index_or}
 use Rattle.{redcode_text.specs.declared.vocabulary.Word.Word, redcode_lines.specs.{Line.{SourceLine, has_and, source_line}, Block.parsed}}
 use Rattle.{redcode_lines.specs.declared.reading.LineForm.LineForm, redcode_names.specs.Equ.has_tokens, redcode_expand.specs.{declared.marked_lines.Edge.Edge, declared.marked_lines.Mark.Mark}}
 
@@ -16,6 +16,10 @@ edge_of _ = Edge.Neither
 -- nothing stands before its word, and no & after it
 abbrev pub is_bare : SourceLine → Bool
 is_bare line = not (has_tokens line.front) && not (has_and line.tokens)
+
+-- an & is among its tokens
+abbrev pub has_join : SourceLine → Bool
+has_join line = has_and line.front || has_and line.tokens
 
 -- the lines that have operands or an expression
 abbrev pub has_operands : LineForm → Option Word → Bool
@@ -61,6 +65,7 @@ pub record IsMarked (lines : List SourceLine) (at : ℕ) (mark : Mark) : Type 0 
   pub edge : mark.edge ≡ edge_of (line_in lines at).word
   pub bare : mark.is_bare ≡ is_bare (line_in lines at)
   pub long : mark.is_long ≡ is_long (line_in lines at)
+  pub joins : mark.joins ≡ has_join (line_in lines at)
   pub rof : IsNextRof lines (at + 1) mark.rof
   pub count : IsSameCount lines at mark.count
 

@@ -30,6 +30,7 @@ impl<'s, A: Allocator + Copy> Walk<'s, A> {
         settings: &Settings,
         blocks: &OpenBlocks<'s, A>,
         line: Reading<'_, 's>,
+        work: &mut u64,
     ) -> Result<Begun<'s>, AsmFault>
         ensures begun { Gives (λ b. begun_as self.new b.counter.now b.copies) result (begun settings.now (counters_of blocks.now) (line_read line.entry) self.old) }
         ensures goes_on { OnOk result (self.new.ended ≡ self.old.ended) }
@@ -37,7 +38,7 @@ impl<'s, A: Allocator + Copy> Walk<'s, A> {
         ensures few { IfOk result (λ b. b.copies < 2 ^ 63) }
     {
         let copy = blocks.copy_of(line)?;
-        self.begin_as(settings, reading_of(line, &copy))
+        self.begin_as(settings, reading_of(line, &copy), work)
     }
 
     /// Walks over the `FOR` of a block as it reads.
@@ -45,6 +46,7 @@ impl<'s, A: Allocator + Copy> Walk<'s, A> {
         &mut self,
         settings: &Settings,
         line: Reading<'_, 's>,
+        work: &mut u64,
     ) -> Result<Begun<'s>, AsmFault>
         ensures begun { Gives (λ b. begun_as self.new b.counter.now b.copies) result (begun_of settings.now (line_read line.entry) self.old) }
         ensures goes_on { OnOk result (self.new.ended ≡ self.old.ended) }
@@ -64,7 +66,7 @@ impl<'s, A: Allocator + Copy> Walk<'s, A> {
             before,
             &self.names.equs,
             count,
-            &mut self.work,
+            work,
         ) {
             Ok(copies) => Ok(Begun { counter, copies }),
             Err(fault) => Err(fault),
@@ -72,7 +74,8 @@ impl<'s, A: Allocator + Copy> Walk<'s, A> {
     }
 }
 
-/// How a block begins. If it has no label its count may be one that is kept, and is kept from then on.
+/// How a block begins. If it has no label its count may be one that is kept, and is kept from then on. `work` rises by the steps of a
+/// count that is worked out.
 pub(crate) fn begun_at<'s, A: Allocator + Copy>(
     settings: &Settings,
     walk: &mut Walk<'s, A>,
@@ -80,6 +83,7 @@ pub(crate) fn begun_at<'s, A: Allocator + Copy>(
     counts: &mut Counts<A>,
     lines: &MarkedLines<'_, 's, A>,
     at: usize,
+    work: &mut u64,
 ) -> Result<Begun<'s>, AsmFault>
     requires some { at < length lines.now }
     requires word { (line_in lines.now at).word ≡ Some For }
@@ -92,14 +96,14 @@ pub(crate) fn begun_at<'s, A: Allocator + Copy>(
 {
     let line = lines.reading(at);
     if line.front.len() > 1 {
-        let begun = walk.begin(settings, blocks, line)?;
+        let begun = walk.begin(settings, blocks, line, work)?;
         return Ok(begun);
     }
     let count = lines.mark(at).count;
     if let Some(copies) = counts.at(count) {
         return Ok(begun_with(line.front, copies));
     }
-    let begun = walk.begin(settings, blocks, line)?;
+    let begun = walk.begin(settings, blocks, line, work)?;
     counts.learn(count, begun.copies);
     Ok(begun)
 }

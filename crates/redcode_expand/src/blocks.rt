@@ -1,9 +1,9 @@
 //! The lines of a source written out, copy by copy.
 
-ghost use Rattle.std.specs.Prelude.{◌≡◌, ◌+◌, ◌<◌, ◌≤◌, [], false, Some, drop, length, IfOk, OnOk};
+ghost use Rattle.std.specs.Prelude.{◌≡◌, ◌≢◌, ◌+◌, ◌<◌, ◌≤◌, [], true, false, Some, drop, length, IfOk, OnOk};
 ghost use Rattle.{redcode_text.specs.declared.vocabulary.Word.TheVariants.{For, Rof}, redcode_lines.specs.Block.parsed};
 ghost use Rattle.{redcode_names.specs.Gives.Gives, redcode_expand.specs.Rest.{counters_of, AreOpen, Continues}};
-ghost use Rattle.redcode_expand.specs.{Walk.{walk_all, walk_begin, closed}, Kept.AreKept, Cut.{cut_walk, with_cut}, Marks.line_in, Budget.{most_lines, steps_of}};
+ghost use Rattle.redcode_expand.specs.{Walk.{walk_all, walk_begin, closed}, Kept.AreKept, Cut.{cut_walk, with_cut}, Marks.line_in, Budget.{most_lines, steps_of}, Steps.{is_plain_word, are_plain, reads}};
 
 use crate::beginning::begun_at;
 use crate::counts::Counts;
@@ -31,6 +31,7 @@ pub(crate) fn walk_all<'s, A: Allocator + Copy>(
     requires few { length lines.now ≤ 65536 }
     requires some { 0 < most }
     ensures steps { steps.old ≤ steps.new + steps_of most most_lines }
+    ensures plain { are_plain lines.now ≡ true → steps.old ≤ steps.new + reads lines.now }
     ensures each { IfOk result (λ walk. walk.counted + steps.new ≤ steps.old) }
     ensures walk { Gives cut_walk result (with_cut (walk_all settings.now (parsed lines.now) walk_begin)) }
 {
@@ -68,6 +69,7 @@ fn walk_lines<'s, A: Allocator + Copy>(
     requires none { blocks.old ≡ [] }
     requires kept { AreKept settings.now lines.now [] walk_begin counts.old }
     ensures steps { steps.old ≤ steps.new + steps_of most most_lines }
+    ensures plain { are_plain lines.now ≡ true → steps.old ≤ steps.new + reads lines.now }
     ensures each { OnOk result (walk.new.counted + steps.new ≤ steps.old) }
     ensures walk { Gives (λ _. cut_walk walk.new) result (with_cut (walk_all settings.now (parsed lines.now) walk_begin)) }
 {
@@ -75,14 +77,16 @@ fn walk_lines<'s, A: Allocator + Copy>(
     while at < lines.len() && !walk.ended {
         let floor = steps.floor(most);
         steps.spend(lines.steps(at, blocks.count()), floor)?;
-        at = step(settings, walk, blocks, counts, lines, at)?;
-        steps.spend(walk.take_work(), floor)?;
+        let mut work = 0;
+        at = step(settings, walk, blocks, counts, lines, at, &mut work)?;
+        steps.spend(work, floor)?;
     }
     Ok(())
 }
 
 /// Walks over the line at index `at`, within blocks. The answer is the index of the line to walk over next: the line after it, or the
-/// first of a further copy.
+/// first of a further copy. `work` rises by the steps that hang on more than the line: those of a count that
+/// is worked out, and of a counter's name.
 fn step<'s, A: Allocator + Copy>(
     settings: &Settings,
     walk: &mut Walk<'s, A>,
@@ -90,6 +94,7 @@ fn step<'s, A: Allocator + Copy>(
     counts: &mut Counts<A>,
     lines: &MarkedLines<'_, 's, A>,
     at: usize,
+    work: &mut u64,
 ) -> Result<usize, AsmFault>
     requires few { length lines.now ≤ 65536 }
     requires some { at < length lines.now }
@@ -99,12 +104,13 @@ fn step<'s, A: Allocator + Copy>(
     ensures goes_on { Continues settings.now lines.now blocks.old at walk.old blocks.new walk.new result }
     ensures kept { OnOk result (AreKept settings.now lines.now (counters_of blocks.new) walk.new counts.new) }
     ensures counted { OnOk result (walk.new.counted ≤ walk.old.counted + 1) }
+    ensures plain { is_plain_word (line_in lines.now at).word ≡ true → blocks.old ≡ [] → IfOk result (λ next. (blocks.new ≡ []) × (next ≡ at + 1) × (work.new ≡ work.old)) }
 {
     match lines.mark(at).edge {
-        Edge::For => begin(settings, walk, blocks, counts, lines, at),
+        Edge::For => begin(settings, walk, blocks, counts, lines, at, work),
         Edge::Rof => {
             Counts::rise(counts)?;
-            end_copy(settings, walk, blocks, lines, at)
+            end_copy(settings, walk, blocks, lines, at, work)
         }
         Edge::Neither => {
             counts.rise()?;
@@ -122,6 +128,7 @@ fn begin<'s, A: Allocator + Copy>(
     counts: &mut Counts<A>,
     lines: &MarkedLines<'_, 's, A>,
     at: usize,
+    work: &mut u64,
 ) -> Result<usize, AsmFault>
     requires few { length lines.now ≤ 65536 }
     requires some { at < length lines.now }
@@ -140,7 +147,7 @@ fn begin<'s, A: Allocator + Copy>(
             kind: AsmKind::UnmatchedFor,
         });
     }
-    let begun = begun_at(settings, walk, blocks, counts, lines, at)?;
+    let begun = begun_at(settings, walk, blocks, counts, lines, at, work)?;
     if begun.copies == 0 {
         close(settings, walk, blocks, lines, rof)?;
         return Ok(rof + 1);
@@ -154,19 +161,22 @@ fn begin<'s, A: Allocator + Copy>(
     Ok(body)
 }
 
-/// Walks over the `ROF` of the innermost block: on to its next copy, or past the block if there is none.
+/// Walks over the `ROF` of the innermost block: on to its next copy, or past the block if there is none. `work` rises by the steps of the
+/// counter's name, which is looked up again for the next copy.
 fn end_copy<'s, A: Allocator + Copy>(
     settings: &Settings,
     walk: &mut Walk<'s, A>,
     blocks: &mut OpenBlocks<'s, A>,
     lines: &MarkedLines<'_, 's, A>,
     at: usize,
+    work: &mut u64,
 ) -> Result<usize, AsmFault>
     requires few { length lines.now ≤ 65536 }
     requires some { at < length lines.now }
     requires goes_on { walk.old.ended ≡ false }
     requires opened { AreOpen lines.now blocks.old (parsed (drop at lines.now)).1 }
     requires word { (line_in lines.now at).word ≡ Some Rof }
+    ensures open { OnOk result (blocks.old ≢ []) }
     ensures goes_on { Continues settings.now lines.now blocks.old at walk.old blocks.new walk.new result }
     ensures counted { OnOk result (walk.new.counted ≤ walk.old.counted + 1) }
 {
@@ -182,6 +192,7 @@ fn end_copy<'s, A: Allocator + Copy>(
         return Ok(at + 1);
     }
     let body = block.body;
+    *work = work.saturating_add((block.name().len() / 32) as u64);
     blocks.push(block.next_copy(walk.counted()))?;
     Ok(body)
 }

@@ -27,7 +27,7 @@ impl<'e> Names for Predefined<'e> {
 }
 
 /// How many copies a count asks for: none if its value is negative. The names of the `EQU`s so far are replaced in it; `work` rises by the
-/// steps of that.
+/// steps of that; the tokens of the count itself took theirs in the visit to the line.
 pub(crate) fn copies_of<'s, A: Allocator + Copy>(
     alloc: A,
     settings: &Settings,

@@ -61,7 +61,7 @@ fn told<'t, 's>(kind: LineKind, tokens: &'t [Token<'s>]) -> &'t [Token<'s>]
     }
 }
 
-/// The first token that is none of the language's, alone; none if all are.
+/// The first token that is none of the language's, alone; none if all are. The visit to the line took a step for each of them.
 fn first_bad<'t, 's>(tokens: &'t [Token<'s>]) -> &'t [Token<'s>]
     ensures { pieces result.now ≡ first_bad (pieces tokens.entry.now) }
 {

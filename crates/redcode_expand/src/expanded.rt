@@ -1,8 +1,8 @@
 //! The lines of a source written out, with the names of `EQU`s in their operands replaced.
 
-ghost use Rattle.std.specs.Prelude.{◌≡◌, ◌<◌, ◌≤◌, ◌+◌, ◌^◌, length, IfOk, Err};
+ghost use Rattle.std.specs.Prelude.{◌≡◌, ◌<◌, ◌≤◌, ◌+◌, ◌^◌, [], true, length, IfOk, Err};
 ghost use Rattle.{war_types.specs.declared.fault.AsmKind.TheVariants.SourceTooLong, redcode_lines.specs.Block.parsed, redcode_names.specs.Gives.{Gives, fault_at}};
-ghost use Rattle.redcode_expand.specs.{Laws.{AreCounted, BlocksAreWrittenOut, LabelsStandBehindInstructions}, Expansion.{expansion, address_of, all_replaced, line_replaced, expansion_of_blocks}, Cut.{shown, with_shown}, Budget.{most_lines, most_steps, steps_of}};
+ghost use Rattle.redcode_expand.specs.{Laws.{AreCounted, BlocksAreWrittenOut, LabelsStandBehindInstructions}, Expansion.{expansion, address_of, all_replaced, line_replaced, expansion_of_blocks}, Cut.{shown, with_shown}, Budget.{most_lines, most_steps, steps_of}, Steps.{are_plain, is_plain, reads}};
 
 use crate::blocks::walk_all;
 use crate::entry::{Entry, joined};
@@ -76,6 +76,7 @@ pub fn expand_within<'s, A: Allocator + Copy>(
     ensures labels { LabelsStandBehindInstructions settings.now }
     ensures counted { IfOk result AreCounted }
     ensures steps { steps.old ≤ steps.new + most_steps (length source.entry.now) }
+    ensures plain { is_plain source.entry.now ≡ true → steps.old ≤ steps.new + (length source.entry.now + 1) }
     ensures each { IfOk result (λ expanded. length expanded.lines + steps.new ≤ steps.old) }
 {
     if source.len() > SOURCE_LIMIT {
@@ -104,6 +105,7 @@ fn expanded_lines<'s, A: Allocator + Copy>(
     requires few { length lines.now ≤ 65536 }
     requires some { 0 < most }
     ensures steps { steps.old ≤ steps.new + (steps_of most most_lines + 2 ^ 32) }
+    ensures plain { are_plain lines.now ≡ true → steps.old ≤ steps.new + reads lines.now }
     ensures each { IfOk result (λ expanded. length expanded.lines + steps.new ≤ steps.old) }
     ensures expanded { Gives shown result (with_shown (expansion_of_blocks settings.now (parsed lines.now))) }
 {
@@ -133,7 +135,7 @@ impl<'s, A: Allocator + Copy> Expanded<'s, A> {
 /// The most steps that are counted while the names of `EQU`s are replaced in all operands.
 const REPLACING: u64 = 1 << 32;
 
-/// Replaces the names of EQUs in the operands of all lines.
+/// Replaces the names of EQUs in the operands of all lines. Those in which none is were paid for by the visits to their lines.
 pub(crate) fn replace_each<'s, A: Allocator + Copy>(
     alloc: A,
     names: &Names<'s, A>,
@@ -142,6 +144,7 @@ pub(crate) fn replace_each<'s, A: Allocator + Copy>(
 ) -> Result<Vec<Entry<'s, A>, A>, AsmFault>
     ensures steps { steps.old ≤ steps.new + 2 ^ 32 }
     ensures less { steps.new ≤ steps.old }
+    ensures plain { names.now.equs ≡ [] → steps.new ≡ steps.old }
     ensures lines { Gives (λ lines. lines.items) result (all_replaced names.now.equs entries.entry.items) }
 {
     let floor = steps.floor(REPLACING);
@@ -162,7 +165,8 @@ fn replace_in<'s, A: Allocator + Copy>(
     entry: Entry<'s, A>,
     work: &mut u64,
 ) -> Result<Entry<'s, A>, AsmFault>
-    ensures { Gives (λ line. line) result (line_replaced names.now.equs entry.entry) }
+    ensures line { Gives (λ line. line) result (line_replaced names.now.equs entry.entry) }
+    ensures plain { names.now.equs ≡ [] → work.new ≡ work.old }
 {
     let line = entry.line;
     let tokens = entry.tokens.as_slice();

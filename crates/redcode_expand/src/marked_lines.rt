@@ -3,13 +3,17 @@
 //! A block without a copy counts nothing and may be met millions of times. So a `FOR` is paired with its `ROF` once, and the marks of both
 //! say whether there is anything to read.
 
-ghost use Rattle.std.specs.Prelude.{◌≡◌, ◌+◌, ◌<◌, ◌∷◌, drop, length, IfOk};
-ghost use Rattle.{redcode_lines.specs.Views.line_read, redcode_expand.specs.Marks.{edge_of, has_operands, is_bare, is_long, line_in, shortened, AreMarked, IsMarked, IsNextRof}};
+ghost use Rattle.std.specs.Prelude.{◌≡◌, ◌+◌, ◌<◌, ◌≤◌, ◌^◌, ◌∷◌, drop, length, IfOk};
+ghost use Rattle.redcode_lines.specs.{Block.parsed, Views.line_read};
+ghost use Rattle.redcode_expand.specs.declared.marked_lines.Edge.TheVariants.{For};
+ghost use Rattle.redcode_expand.specs.Steps.{read_steps, rof_steps, steps_at, visit_steps};
+ghost use Rattle.redcode_expand.specs.Marks.{edge_of, has_join, has_operands, is_bare, is_long, line_in, shortened, AreMarked, IsMarked, IsNextRof};
 
 use crate::entry::MOST_TOKENS;
 use crate::same_counts::SameCounts;
+use crate::visits::visit_steps;
 use redcode_lines::{LineForm, Reading, SourceLine, has_and, line_at};
-use redcode_text::{Token, Word};
+use redcode_text::Word;
 use std::alloc::{AllocError, Allocator};
 use std::marker::Model;
 
@@ -120,21 +124,45 @@ impl<'l, 's, A: Allocator + Copy> MarkedLines<'l, 's, A> {
         line_at(self.lines, at).number()
     }
 
-    /// The steps of a visit within this number of blocks: its tokens are read. If an `&` is among them, they are read again for each block,
-    /// and each join copies a name, which may have all bytes of the line.
+    /// The steps of a visit within this number of blocks. A `FOR` pays for its `ROF` too, since a block without a copy is passed at once.
     pub(crate) fn steps(&self, at: usize, blocks: usize) -> u64
         requires { at < length self.now }
-        ensures { 0 < result }
+        ensures some { 0 < result }
+        ensures most { result ≤ steps_at (visit_steps blocks) self.now at }
+        ensures least { steps_at read_steps self.now at < 2 ^ 64 → steps_at read_steps self.now at ≤ result }
     {
-        let line = self.shortened(at);
-        let tokens = (line.front.len() as u64).saturating_add(line.tokens.len() as u64);
-        let times = if self.marks[at].joins {
-            let bytes = bytes_of(line.front).saturating_add(bytes_of(line.tokens));
-            (blocks as u64).saturating_add(bytes / 16)
-        } else {
-            0
-        };
-        1u64.saturating_add(tokens.saturating_mul(times.saturating_add(1)))
+        let joins = self.mark(at).joins;
+        let own = visit_steps(self.shortened(at), joins, blocks);
+        own.saturating_add(self.rof_steps(at, blocks))
+    }
+
+    /// The steps of the `ROF` of a `FOR`, if there is something to read in it; of any other line 0.
+    fn rof_steps(&self, at: usize, blocks: usize) -> u64
+        requires { at < length self.now }
+        ensures most { result ≤ rof_steps (visit_steps blocks) (edge_of (line_in self.now at).word) (parsed (drop (at + 1) self.now)).1 }
+        ensures least { rof_steps read_steps (edge_of (line_in self.now at).word) (parsed (drop (at + 1) self.now)).1 < 2 ^ 64 → rof_steps read_steps (edge_of (line_in self.now at).word) (parsed (drop (at + 1) self.now)).1 ≤ result }
+    {
+        match self.mark(at).edge {
+            Edge::For => self.end_steps(at, blocks),
+            Edge::Rof | Edge::Neither => 0,
+        }
+    }
+
+    /// The steps of the `ROF` that belongs to the `FOR` at index `at`.
+    fn end_steps(&self, at: usize, blocks: usize) -> u64
+        requires { at < length self.now }
+        ensures most { result ≤ rof_steps (visit_steps blocks) For (parsed (drop (at + 1) self.now)).1 }
+        ensures least { rof_steps read_steps For (parsed (drop (at + 1) self.now)).1 < 2 ^ 64 → rof_steps read_steps For (parsed (drop (at + 1) self.now)).1 ≤ result }
+    {
+        let rof = self.mark(at).rof;
+        if rof >= self.len() {
+            return 0;
+        }
+        let end = self.mark(rof);
+        if end.is_bare {
+            return 0;
+        }
+        visit_steps(self.reading(rof), end.joins, blocks)
     }
 
     /// What the walk has to know of it.
@@ -153,6 +181,7 @@ impl Mark {
         ensures edge { result.edge ≡ edge_of (line_read line.entry).word }
         ensures bare { result.is_bare ≡ is_bare (line_read line.entry) }
         ensures long { result.is_long ≡ is_long (line_read line.entry) }
+        ensures joins { result.joins ≡ has_join (line_read line.entry) }
         ensures rof { result.rof ≡ rof }
         ensures count { result.count ≡ count }
     {
@@ -165,15 +194,6 @@ impl Mark {
             count,
         }
     }
-}
-
-/// The bytes of all tokens.
-fn bytes_of(tokens: &[Token<'_>]) -> u64 {
-    let mut bytes: u64 = 0;
-    for token in tokens {
-        bytes = bytes.saturating_add(token.text.len() as u64);
-    }
-    bytes
 }
 
 /// Whether a line has too many operands in each copy.
@@ -211,7 +231,7 @@ fn edge_of(word: Option<Word>) -> Edge
     }
 }
 
-/// Marks each line, the last one first, so that the `ROF`s after a line are known.
+/// Marks each line, the last one first, so that the `ROF`s after a line are known. Each is read once, before the first step.
 fn mark_all<A: Allocator>(lines: &[SourceLine<'_, A>], marks: &mut [Mark], same: &mut SameCounts<A>)
     requires { length marks.old ≡ length lines.now }
     ensures { AreMarked 0 lines.now marks.new }

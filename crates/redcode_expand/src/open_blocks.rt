@@ -51,7 +51,9 @@ impl<'s, A: Allocator + Copy> OpenBlocks<'s, A> {
     }
 
     /// How many there are.
-    pub(crate) fn count(&self) -> usize {
+    pub(crate) fn count(&self) -> usize
+        ensures { result ≡ length self.now }
+    {
         self.blocks.len()
     }
 

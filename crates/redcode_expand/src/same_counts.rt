@@ -1,4 +1,4 @@
-//! Counts that read the same, so that one of them is worked out for all.
+//! Counts that read the same, so that one of them is worked out for all. Each is compared with one other, once, before the first step.
 
 ghost use Rattle.std.specs.Prelude.{◌≡◌, ◌<◌, true, length};
 ghost use Rattle.{redcode_text.specs.Tokens.{piece_of, pieces}, redcode_lines.specs.Views.line_read, redcode_expand.specs.Marks.{IsSameCount, ReadSame}};

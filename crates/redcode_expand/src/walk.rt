@@ -1,6 +1,6 @@
 //! The walk over the lines of a source.
 
-ghost use Rattle.std.specs.Prelude.{◌≡◌, ◌+◌, ◌<◌, ◌≤◌, ◌^◌, length, Ok, IfOk, OnOk};
+ghost use Rattle.std.specs.Prelude.{◌≡◌, ◌+◌, ◌<◌, ◌≤◌, ◌^◌, [], length, Ok, IfOk, OnOk};
 ghost use Rattle.{redcode_text.specs.Tokens.pieces, redcode_lines.specs.{Line.labels_of, Views.line_read}};
 ghost use Rattle.{redcode_names.specs.Gives.Gives, redcode_expand.specs.{Cut.{cut_walk, with_cut}, Expansion.finished, Rest.counters_of}};
 ghost use Rattle.redcode_expand.specs.Walk.{walk_begin, closed, copied, counted, labelled, with_line, placed, statement, lined, step, step_as, IsCopied};
@@ -31,8 +31,6 @@ pub(crate) struct Walk<'s, A: Allocator + Copy> {
     entries: Vec<Entry<'s, A>, A>,
     /// Whether an `END` was met.
     pub ended: bool,
-    /// Steps that counts took.
-    pub work: u64,
 }
 
 impl<'s, A: Allocator + Copy> Model for Walk<'s, A> {
@@ -57,17 +55,7 @@ impl<'s, A: Allocator + Copy> Walk<'s, A> {
             names: Names::new(alloc, hash),
             entries: Vec::new(alloc),
             ended: false,
-            work: 0,
         }
-    }
-
-    /// The steps that counts took since the last call.
-    pub(crate) fn take_work(&mut self) -> u64
-        ensures { self.new ≡ self.old }
-    {
-        let work = self.work;
-        self.work = 0;
-        work
     }
 
     /// Lines that were counted.
@@ -135,6 +123,7 @@ impl<'s, A: Allocator + Copy> Walk<'s, A> {
     pub(crate) fn finish(self, steps: &mut Steps) -> Result<Expanded<'s, A>, AsmFault>
         ensures steps { steps.old ≤ steps.new + 2 ^ 32 }
         ensures less { steps.new ≤ steps.old }
+        ensures plain { self.entry.names.equs ≡ [] → steps.new ≡ steps.old }
         ensures lines { IfOk result (λ expanded. length expanded.lines ≤ self.entry.counted) }
         ensures expanded { Gives (λ expanded. expanded) result (finished self.entry) }
     {
@@ -225,7 +214,7 @@ impl<'s, A: Allocator + Copy> Walk<'s, A> {
         Ok(())
     }
 
-    /// The labels of a line, at the next instruction.
+    /// The labels of a line, at the next instruction. Each of them took a step in the visit to the line.
     fn label(&mut self, settings: &Settings, line: Reading<'_, 's>) -> Result<(), AsmFault>
         ensures labelled { Gives (λ _. self.new) result (labelled settings.now line.entry.number (labels_of (line_read line.entry)) self.old) }
         ensures before { self.new.before ≡ self.old.before }

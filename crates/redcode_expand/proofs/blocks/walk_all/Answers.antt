@@ -1,5 +1,5 @@
-use Rattle.std.proofs.Common.{ap, sym, List, length, subst, ◌≤◌}
-use Rattle.{redcode_lines.specs.{Block.parsed, Line.SourceLine}, redcode_names.specs.Gives.Fails, redcode_expand.specs.{Cut.with_cut, Walk.{walk_all, walk_begin}}, redcode_expand.proofs.Latest.{kept-none}}
+use Rattle.std.proofs.Common.{ap, sym, arith, List, length, subst, ◌≤◌, ◌∙◌}
+use Rattle.{redcode_lines.specs.{Block.parsed, Line.SourceLine}, redcode_names.specs.Gives.Fails, redcode_expand.specs.{Cut.with_cut, Walk.{walk_all, walk_begin}, Steps.{are_plain, reads}}, redcode_expand.proofs.Latest.{kept-none}}
 use Rattle.redcode_expand.proofs.blocks.walk_all.Goals as goal
 
 pub walk_lines-requires-clause-kept : goal.walk_lines-requires-clause-kept
@@ -12,3 +12,9 @@ walk_lines-requires-clause-few g c = subst (λ (ls : List SourceLine). length ls
 pub returns-clause-walk : goal.returns-clause-walk
 returns-clause-walk g c =
     subst (λ (ls : List SourceLine). Fails c.in-Err.fault (with_cut (walk_all c.args.settings.now (parsed ls) walk_begin))) c.in_ok-lines.ensures c.in-Err.ensures.walk
+
+pub returns-in-Ok-clause-plain : goal.returns-in-Ok-clause-plain
+returns-in-Ok-clause-plain g c plain = omega (arith, c.walk_lines.ensures.plain (ap are_plain c.in_ok-lines.ensures ∙ plain), ap reads c.in_ok-lines.ensures)
+
+pub returns-clause-plain : goal.returns-clause-plain
+returns-clause-plain g c plain = omega (arith, c.walk_lines.ensures.plain (ap are_plain c.in_ok-lines.ensures ∙ plain), ap reads c.in_ok-lines.ensures)

@@ -1,5 +1,5 @@
-use Rattle.{std.proofs.{lemmas.Grind.common_steps, Common.{arith, ◌<◌, ap, ◌∙◌}}, redcode_expand.specs.{Walk.WalkState, Rest.steps_left, Budget.{most_lines, steps_of}}}
-use Rattle.redcode_expand.proofs.{Budget.{steps-begin, steps-next, steps-within}, GoingOn.{rest-ended, rest-done}}
+use Rattle.{std.proofs.{lemmas.Grind.common_steps, Common.{arith, ◌<◌, ap, ◌∙◌, length}}, redcode_expand.specs.{Walk.WalkState, Rest.steps_left, Budget.{most_lines, steps_of}}}
+use Rattle.redcode_expand.proofs.{Budget.{steps-begin, steps-next, steps-within}, GoingOn.{rest-ended, rest-done}, PlainWalk.{plain-at, spent-most, spent-plain}}
 use Rattle.redcode_expand.proofs.blocks.walk_lines.Goals as goal
 
 pub loop-at-init : goal.loop-at-init
@@ -9,6 +9,7 @@ loop-at-init g c = (
   grind (arith, common_steps),
   steps-begin c.args.most c.args.steps.now c.args.lines.now c.args.blocks.now c.args.walk.now c.requires.none c.requires.few,
   omega (arith, ap (λ (st : WalkState). st.counted) c.requires.begin),
+  λ plain. (c.requires.none, omega arith),
 )
 
 pub loop-at-preserved : goal.loop-at-preserved
@@ -16,8 +17,7 @@ loop-at-preserved g c =
     let was = c.loop-at.invariant in
     let goes = c.in_ok-at.ensures.goes_on in
     let some : 0 < c.loop-at.steps = omega (arith, c.in_ok-spend.ensures.some, c.spend.ensures.less) in
-    let spent = c.in_ok-spend.ensures.spent c.steps.ensures (c.floor-floor.ensures.less c.requires.some some) in
-    rw c.take_work.ensures (
+    let spent = c.in_ok-spend.ensures.spent c.steps.ensures.some (c.floor-floor.ensures.less c.requires.some some) in (
       goes.rest ∙ was.0,
       goes.opened,
       c.in_ok-at.ensures.kept,
@@ -25,6 +25,15 @@ loop-at-preserved g c =
           (steps_of c.args.most most_lines) c.args.steps.now c.loop-at.steps c.spend-in-loop-at.new.self goes.less was.3
           (omega (arith, c.floor-floor.ensures.few, c.spend-in-loop-at.ensures.low)),
       omega (arith, spent, c.spend-in-loop-at.ensures.less, c.in_ok-at.ensures.counted, was.4),
+      λ plain.
+          let some : c.loop-at.at < length c.args.lines.now = omega (arith, c.loop-at-test.true, c.len.ensures) in
+          let word = plain-at c.args.lines.now c.loop-at.at plain some in
+          let none = (was.5 plain).0 in
+          let next = c.in_ok-at.ensures.plain word none in (
+            next.0,
+            rw next.1 (spent-plain c.args.lines.now c.loop-at.at c.count.result c.steps.result c.args.steps.now c.loop-at.steps c.spend.new.self c.spend-in-loop-at.new.self plain some
+                (c.count.ensures ∙ ap length none) c.steps.ensures.most (was.5 plain).1 c.spend.ensures.few (omega (arith, c.spend-in-loop-at.ensures.few, next.2))),
+          ),
     )
 
 pub returns-in_err-spend-clause-steps : goal.returns-in_err-spend-clause-steps
@@ -41,6 +50,26 @@ pub returns-in_err-spend-2-clause-steps : goal.returns-in_err-spend-2-clause-ste
 returns-in_err-spend-2-clause-steps g c =
     steps-within c.args.most (steps_left c.args.lines.now c.loop-at.blocks c.loop-at.at c.loop-at.walk) (steps_of c.args.most most_lines) c.args.steps.now c.loop-at.steps c.spend-in-loop-at.new.self
     (omega (arith, c.loop-at-test.true, c.len.ensures)) c.loop-at.invariant.3 (omega (arith, c.floor-floor.ensures.few, c.spend-in-loop-at.ensures.low))
+
+pub returns-in_err-spend-clause-plain : goal.returns-in_err-spend-clause-plain
+returns-in_err-spend-clause-plain g c plain =
+    let was = c.loop-at.invariant.5 plain in
+    spent-most c.args.lines.now c.loop-at.at c.count.result c.steps.result c.args.steps.now c.loop-at.steps c.spend.new.self c.spend.new.self plain
+    (omega (arith, c.loop-at-test.true, c.len.ensures)) (c.count.ensures ∙ ap length was.0) c.steps.ensures.most was.1 c.spend.ensures.few (omega arith)
+
+pub returns-in_err-at-clause-plain : goal.returns-in_err-at-clause-plain
+returns-in_err-at-clause-plain g c plain =
+    let was = c.loop-at.invariant.5 plain in
+    spent-most c.args.lines.now c.loop-at.at c.count.result c.steps.result c.args.steps.now c.loop-at.steps c.spend.new.self c.spend.new.self plain
+    (omega (arith, c.loop-at-test.true, c.len.ensures)) (c.count.ensures ∙ ap length was.0) c.steps.ensures.most was.1 c.spend.ensures.few (omega arith)
+
+pub returns-in_err-spend-2-clause-plain : goal.returns-in_err-spend-2-clause-plain
+returns-in_err-spend-2-clause-plain g c plain =
+    let was = c.loop-at.invariant.5 plain in
+    let some : c.loop-at.at < length c.args.lines.now = omega (arith, c.loop-at-test.true, c.len.ensures) in
+    let next = c.in_ok-at.ensures.plain (plain-at c.args.lines.now c.loop-at.at plain some) was.0 in
+    spent-most c.args.lines.now c.loop-at.at c.count.result c.steps.result c.args.steps.now c.loop-at.steps c.spend.new.self c.spend-in-loop-at.new.self plain
+    some (c.count.ensures ∙ ap length was.0) c.steps.ensures.most was.1 c.spend.ensures.few (omega (arith, c.spend-in-loop-at.ensures.few, next.2))
 
 pub returns-else-not-walk : goal.returns-else-not-walk
 returns-else-not-walk g c = grind (arith, common_steps, rest-ended)

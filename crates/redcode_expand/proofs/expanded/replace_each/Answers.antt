@@ -8,10 +8,11 @@ loop-entry-preserved g c =
     let was = c.loop-entry.invariant.1 in
     let short = ap length steps.0 in (
       line-kept c.args.names.now.equs _ _ c.loop-entry.lines.items c.push.new.self.items c.in-Some.entry c.in_ok-line.line _
-          steps.0 c.in_ok-line.ensures c.in_ok-push.ensures.items c.loop-entry.invariant.0,
+          steps.0 c.in_ok-line.ensures.line c.in_ok-push.ensures.items c.loop-entry.invariant.0,
       omega arith,
       c.spend.ensures.low,
       omega (arith, c.spend.ensures.less, c.loop-entry.invariant.3),
+      λ none. omega (arith, c.spend.ensures.less, c.spend.ensures.few, c.in_ok-line.ensures.plain none, c.loop-entry.invariant.4 none),
     )
 
 pub returns-clause-lines : goal.returns-clause-lines

@@ -11,7 +11,7 @@ rof_from-rof-requires-clause-marked g c =
     let behind = subst (λ (n : ℕ). AreMarked n ls c.loop-at.marks) on c.loop-at.invariant.0 in
     let next = subst (λ (n : ℕ). IsNextRof ls n c.loop-at.rof) on c.loop-at.invariant.1 in
     one-marked ls c.loop-at.marks at c.of.result some behind
-    (marked-is ls at c.loop-at.rof c.line_at.result.now (line_read c.reading.result) c.of.result some c.line_at.ensures c.reading.ensures c.of.ensures.edge c.of.ensures.bare c.of.ensures.long
+    (marked-is ls at c.loop-at.rof c.line_at.result.now (line_read c.reading.result) c.of.result some c.line_at.ensures c.reading.ensures c.of.ensures.edge c.of.ensures.bare c.of.ensures.long c.of.ensures.joins
     c.of.ensures.rof next (subst (IsSameCount ls at) (sym c.of.ensures.count) c.count_of-count.ensures))
 
 pub loop-at-preserved : goal.loop-at-preserved

@@ -1,0 +1,5 @@
+use Rattle.std.proofs.{lemmas.{Grind.common_steps, List.drop_more}, Common.arith}
+use Rattle.redcode_expand.proofs.visits.token_steps.Goals as goal
+
+pub loop-token-preserved : goal.loop-token-preserved
+loop-token-preserved c = grind (arith, common_steps, drop_more)
