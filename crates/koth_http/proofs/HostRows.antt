@@ -2,10 +2,12 @@
 use Rattle.std.proofs.Common.{◌≡◌, true, false, [], ◌∷◌, Some, None, codes, map, refl}
 use Rattle.koth_http.specs.{Host.{has_name, host_by, host_fault, host_named, host_values, origin_of}, declared.refusal.Refusal.Refusal}
 
--- a name, in either case, with a port or without; the last host is another machine's, with a user before it
+-- a name, in either case, with a port or without, and with a dot at its end or without; of the last host what follows the name is no port, and another
+-- machine's has a user before it
 names : map (λ host. has_name host (codes "localhost"))
-    (codes "LocalHost:80" ∷ codes "localhost.evil" ∷ codes "evil.localhost" ∷ [] ∷ codes "localhost:x@evil.example" ∷ [])
-    ≡ true ∷ false ∷ false ∷ false ∷ false ∷ []
+    (codes "LocalHost:80" ∷ codes "localhost." ∷ codes "localhost.:80" ∷ codes "localhost:" ∷ codes "localhost.." ∷ codes "localhost:80." ∷ codes "localhost.evil"
+    ∷ codes "evil.localhost" ∷ [] ∷ codes "localhost:x@evil.example" ∷ codes "localhost:evil" ∷ [])
+    ≡ true ∷ true ∷ true ∷ true ∷ false ∷ false ∷ false ∷ false ∷ false ∷ false ∷ false ∷ []
 names = refl
 
 -- the host of a target, and what the target asks of it

@@ -1,6 +1,6 @@
 -- Which host a request is for, and which hosts are answered.
 use Rattle.std.specs.Prelude.{◌≡◌, ◌⊎◌, ℕ, ◌<◌, ◌-◌, ◌==◌, nat_lt, nat_le, Bool, true, not, ◌||◌, ◌&&◌, if◌then◌else◌, List, [], ◌∷◌, length, map, take, drop, get_or}
-use Rattle.std.specs.{Prelude.{slice_range, Option, None, Some, unwrap_or, codes}, List.{before_first, list_any}, Net.Grammar.{IsIpv4Text, IsIpv6Text, IsSocketText}, Str.{byte, str_eq_ignore_ascii_case}}
+use Rattle.std.specs.{Prelude.{slice_range, Option, None, Some, unwrap_or, codes}, Char.is_ascii_digit, List.{after_first, before_first, list_all, list_any}, Net.Grammar.{IsIpv4Text, IsIpv6Text, IsSocketText}, Str.{byte, str_eq_ignore_ascii_case}}
 use Rattle.std.specs.{declared.net.ipv4_addr.Ipv4Addr.Ipv4Addr, declared.net.ipv6_addr.Ipv6Addr.Ipv6Addr, declared.net.socket_addr.SocketAddr.SocketAddr}
 use Rattle.{httparse.specs.{Grammar.RequestHead, Spans.name_and_value}, koth_http.specs.{Target.is_slash, declared.refusal.Refusal.Refusal}}
 
@@ -51,21 +51,29 @@ host_of head = host_by head.target (first_host (hosts_of head))
 
 -- ---- which hosts are answered
 
+-- a name without the dot that may end it
+abbrev pub undotted : List ℕ → List ℕ
+undotted name = if get_or name (length name - 1) 0 == byte "." then take (length name - 1) name else name
+
 -- an IPv6 address in brackets
 abbrev pub IsBracketed : List ℕ → Type 0
 IsBracketed host = (get_or host 0 0 ≡ byte "[") × (get_or host (length host - 1) 0 ≡ byte "]")
     × ((a : Ipv6Addr) × IsIpv6Text (slice_range host 1 (length host - 1)) a)
 
--- an address, with a port or without
+-- an address, with a port or without; one of IPv4 may end with a dot, as a name may
 abbrev pub IsAddress : List ℕ → Type 0
-IsAddress host = ((a : SocketAddr) × IsSocketText host a) ⊎ (((a : Ipv4Addr) × IsIpv4Text host a) ⊎ IsBracketed host)
+IsAddress host = ((a : SocketAddr) × IsSocketText host a) ⊎ (((a : Ipv4Addr) × IsIpv4Text (undotted host) a) ⊎ IsBracketed host)
 
 abbrev pub is_colon : ℕ → Bool
 is_colon b = b == byte ":"
 
--- a host without its port has this name, upper and lower case being one, and no user before it
+-- what follows a host's name is no port, or one of digits
+abbrev pub has_port : List ℕ → Bool
+has_port host = list_all is_ascii_digit (after_first is_colon host)
+
+-- a host without its port and a dot at its end has this name, upper and lower case being one, and no user before it
 abbrev pub has_name : List ℕ → List ℕ → Bool
-has_name host name = str_eq_ignore_ascii_case (before_first is_colon host) name && not (list_any (λ b. b == byte "@") host)
+has_name host name = str_eq_ignore_ascii_case (undotted (before_first is_colon host)) name && has_port host && not (list_any (λ b. b == byte "@") host)
 
 -- a host has one of these names
 abbrev pub IsNamed : List (List ℕ) → List ℕ → Type 0

@@ -33,7 +33,7 @@ refusal_page refusal =
 unfoldable pub fields : ℕ → List ℕ
 fields len =
     codes "Content-Type: text/html; charset=us-ascii\r\nContent-Length: " ++ decimal len
-    ++ codes "\r\nConnection: close\r\nCache-Control: no-store\r\nX-Content-Type-Options: nosniff\r\nContent-Security-Policy: default-src 'none'; style-src 'unsafe-inline'; script-src 'unsafe-inline'\r\n\r\n"
+    ++ codes "\r\nConnection: close\r\nCache-Control: no-store\r\nX-Content-Type-Options: nosniff\r\nContent-Security-Policy: default-src 'none'; style-src 'unsafe-inline'; script-src 'unsafe-inline'; frame-ancestors 'none'; base-uri 'none'; form-action 'none'\r\nReferrer-Policy: no-referrer\r\nCross-Origin-Resource-Policy: same-origin\r\n\r\n"
 
 -- an answer, with its body only if that is asked for
 unfoldable pub response : List ℕ → List ℕ → Bool → List ℕ

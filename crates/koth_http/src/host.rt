@@ -4,7 +4,7 @@ ghost use Rattle.std.specs.Prelude.{◌≡◌, length, map, codes, option_map, A
 ghost use Rattle.std.specs.{Net.Grammar.{IsIpv4Text, IsIpv6Text, IsSocketText}, Str.str_eq_ignore_ascii_case};
 ghost use Rattle.std.specs.{declared.net.ipv4_addr.Ipv4Addr.Ipv4Addr, declared.net.ipv6_addr.Ipv6Addr.Ipv6Addr, declared.net.socket_addr.SocketAddr.SocketAddr};
 ghost use Rattle.httparse.specs.Spans.{header_bytes, IsHeaderWithin};
-ghost use Rattle.koth_http.specs.Host.{first_host, has_name, host_fault, host_named, host_values, is_absolute, origin_of, path_or_root, IsAddress, IsBracketed, IsJudged, IsNamed};
+ghost use Rattle.koth_http.specs.Host.{first_host, has_name, has_port, host_fault, host_named, host_values, is_absolute, origin_of, path_or_root, undotted, IsAddress, IsBracketed, IsJudged, IsNamed};
 
 use crate::refusal::Refusal;
 use crate::target::cut;
@@ -105,12 +105,31 @@ pub(crate) fn is_own(names: &[&str], host: &[u8]) -> bool
     has_name(host, b"localhost") || is_address(host) || is_named(names, host)
 }
 
-/// Whether a host without its port has this name, upper and lower case being one, and no user before it.
+/// Whether a host without its port and a dot at its end has this name, upper and lower case being one, and no user before it.
 fn has_name(host: &[u8], name: &[u8]) -> bool
     ensures { result ≡ has_name host.now name.now }
 {
     let (alone, _) = cut(host, b':');
-    alone.eq_ignore_ascii_case(name) && !host.contains(&b'@')
+    undotted(alone).eq_ignore_ascii_case(name) && has_port(host) && !host.contains(&b'@')
+}
+
+/// A name without the dot that may end it.
+fn undotted(name: &[u8]) -> &[u8]
+    ensures { result.now ≡ undotted name.entry.now }
+{
+    let end = name.len();
+    if end > 0 && name[end - 1] == b'.' {
+        return &name[..end - 1];
+    }
+    name
+}
+
+/// Whether what follows a host's name is no port, or one of digits.
+fn has_port(host: &[u8]) -> bool
+    ensures { result ≡ has_port host.now }
+{
+    let (_, port) = cut(host, b':');
+    port.iter().all(|byte| byte.is_ascii_digit())
 }
 
 fn is_named(names: &[&str], host: &[u8]) -> bool
@@ -124,14 +143,14 @@ fn is_named(names: &[&str], host: &[u8]) -> bool
     false
 }
 
-/// Whether a host is an address, with a port or without.
+/// Whether a host is an address, with a port or without. One of IPv4 may end with a dot, as a name may.
 fn is_address(host: &[u8]) -> bool
     ensures { IsTrue result → IsAddress host.now }
 {
     let Ok(text) = from_utf8(host) else {
         return false;
     };
-    writes_socket(text) || writes_ipv4(text) || is_bracketed(host)
+    writes_socket(text) || is_ipv4(host) || is_bracketed(host)
 }
 
 fn writes_socket(text: &str) -> bool
@@ -140,10 +159,13 @@ fn writes_socket(text: &str) -> bool
     text.parse::<SocketAddr>().is_ok()
 }
 
-fn writes_ipv4(text: &str) -> bool
-    ensures { IsTrue result → ((a : Ipv4Addr) × IsIpv4Text text.now a) }
+fn is_ipv4(host: &[u8]) -> bool
+    ensures { IsTrue result → ((a : Ipv4Addr) × IsIpv4Text (undotted host.now) a) }
 {
-    text.parse::<Ipv4Addr>().is_ok()
+    match from_utf8(undotted(host)) {
+        Ok(text) => text.parse::<Ipv4Addr>().is_ok(),
+        Err(_) => false,
+    }
 }
 
 fn writes_ipv6(text: &str) -> bool

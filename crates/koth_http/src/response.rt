@@ -16,7 +16,7 @@ const PAGE_AFTER: &[u8] = b"</p></html>\n";
 const FIELDS_BEFORE: &[u8] = b"Content-Type: text/html; charset=us-ascii\r\nContent-Length: ";
 
 const FIELDS_AFTER: &[u8] =
-    b"\r\nConnection: close\r\nCache-Control: no-store\r\nX-Content-Type-Options: nosniff\r\nContent-Security-Policy: default-src 'none'; style-src 'unsafe-inline'; script-src 'unsafe-inline'\r\n\r\n";
+    b"\r\nConnection: close\r\nCache-Control: no-store\r\nX-Content-Type-Options: nosniff\r\nContent-Security-Policy: default-src 'none'; style-src 'unsafe-inline'; script-src 'unsafe-inline'; frame-ancestors 'none'; base-uri 'none'; form-action 'none'\r\nReferrer-Policy: no-referrer\r\nCross-Origin-Resource-Policy: same-origin\r\n\r\n";
 
 /// The answer with a page, which is HTML in ASCII. It has the length of its body in any case, and the body only if that is asked for.
 /// The error is a lack of memory.

@@ -1,6 +1,6 @@
 //! The bytes of one connection, until what they ask is known.
 
-ghost use Rattle.std.specs.Prelude.{◌≡◌, ◌+◌, ◌≤◌, ◌++◌, [], length, map, IfOk};
+ghost use Rattle.std.specs.Prelude.{◌≡◌, ◌==◌, ◌+◌, ◌≤◌, ◌++◌, [], length, map, IfOk};
 ghost use Rattle.koth_http.specs.Asked.{FindsAsked, IsAsked, most_bytes};
 
 use crate::asked::{Asked, MOST_BYTES, asked_in};
@@ -33,6 +33,13 @@ impl<A: Allocator> Visit<A> {
         Ok(Visit {
             bytes: Vec::with_capacity(alloc, MOST_BYTES)?,
         })
+    }
+
+    /// Whether no bytes came yet.
+    pub fn is_empty(&self) -> bool
+        ensures { result ≡ (length self.now == 0) }
+    {
+        self.bytes.is_empty()
     }
 
     /// How many more bytes it takes.

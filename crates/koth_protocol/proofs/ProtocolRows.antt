@@ -1,6 +1,6 @@
 -- Tables, matches and commands, computed.
-use Rattle.{std.proofs.Common.{◌≡◌, ℕ, true, false, [], ◌∷◌, codes, refl}, std.specs.Fmt.digits, war_types.specs.{declared.settings.RawSettings.RawSettings, Warrior.warrior_parts}}
-use Rattle.{koth_hill.specs.{Hill.{Member, member_of}, Kept.{Kept, kept_of}}, koth_protocol.specs.{Commands.{Command, commands_of, commands_served}, Matches.matches_text, Request.is_request, Table.show_text}}
+use Rattle.{std.proofs.Common.{◌≡◌, ℕ, true, false, [], ◌∷◌, ◌++◌, replicate, codes, refl}, std.specs.Fmt.digits, war_types.specs.{declared.settings.RawSettings.RawSettings, Warrior.warrior_parts}}
+use Rattle.{koth_hill.specs.{Hill.{Member, member_of}, Kept.{Kept, kept_of}}, koth_protocol.specs.{Commands.{Command, commands_of, commands_served}, Matches.matches_text, Request.{is_foreign, is_request}, Table.show_text}}
 
 table_of_two : show_text (record { entry = 1; name = codes "Imp"; author = codes "A. K. Dewdney"; score = 2; age = 1 } ∷ record { entry = 2; name = codes "Unnamed"; author = codes "Anonymous"; score = 2; age = 0 } ∷ [])
     ≡ codes "1 1 2 1 Imp by A. K. Dewdney\n2 2 2 0 Unnamed by Anonymous\n.\n"
@@ -59,9 +59,17 @@ requests : (is_request (codes "POST / HTTP/1.1") ≡ true) × (is_request (codes
     × (is_request (codes "SHOW") ≡ false) × (is_request [] ≡ false)
 requests = (refl, refl, refl, refl, refl, refl, refl, refl, refl)
 
--- a warrior that a page posts: a session reads it, and a service doesn't; a request within a source is a line of it
+-- a record of TLS, an escape and a byte 127; the last of 256 bytes and the one after it; a tab and a carriage return; no bytes
+foreign : (is_foreign (22 ∷ 3 ∷ 1 ∷ []) ≡ true) × (is_foreign (codes "SHOW" ++ 27 ∷ []) ≡ true) × (is_foreign (127 ∷ []) ≡ true)
+    × (is_foreign (replicate 255 65 ++ 0 ∷ []) ≡ true) × (is_foreign (replicate 256 65 ++ 0 ∷ []) ≡ false)
+    × (is_foreign (codes "SHOW\t\r") ≡ false) × (is_foreign (195 ∷ 164 ∷ []) ≡ false) × (is_foreign [] ≡ false)
+foreign = (refl, refl, refl, refl, refl, refl, refl, refl)
+
+-- a warrior that a page posts: a session reads it, and a service doesn't; so it is with one that a record of TLS has; a request within a source is a line of it
 posted : (commands_of (codes "SHOW\nPOST / HTTP/1.1\r\nSUBMIT\nMOV 0,1\n.\n") ≡ Command.Show ∷ Command.Bad ∷ Command.Submit (codes "MOV 0,1\n") ∷ [])
     × (commands_served (codes "SHOW\nPOST / HTTP/1.1\r\nSUBMIT\nMOV 0,1\n.\n") ≡ Command.Show ∷ [])
     × (commands_served (codes "SUBMIT\nGET /\n.\nQUIT\n") ≡ Command.Submit (codes "GET /\n") ∷ Command.Quit ∷ [])
     × (commands_served (codes "QUIT\nGET /\n") ≡ Command.Quit ∷ [])
-posted = (refl, refl, refl, refl)
+    × (commands_of (22 ∷ codes "\nSUBMIT\nMOV 0,1\n.\n") ≡ Command.Bad ∷ Command.Submit (codes "MOV 0,1\n") ∷ [])
+    × (commands_served (codes "SHOW\n" ++ 22 ∷ codes "\nSUBMIT\nMOV 0,1\n.\n") ≡ Command.Show ∷ [])
+posted = (refl, refl, refl, refl, refl, refl)

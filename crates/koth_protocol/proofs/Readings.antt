@@ -1,7 +1,7 @@
 -- What a line does to a reading, if only its beginning is kept.
-use Rattle.std.proofs.Common.{◌≡◌, ◌≢◌, ◌⊎◌, inl, inr, ℕ, ◌+◌, ◌-◌, ◌<◌, ◌≤◌, ◌==◌, ◌&&◌, ◌||◌, Bool, true, false, if◌then◌else◌, suc, List, [], ◌∷◌, ◌++◌, length, take, get_or, eqb-true, Option}
-use Rattle.{std.proofs.Common.{None, Some, refl, sym, ap, append-nil, append_assoc, subst, ◌∙◌, arith, codes}, std.specs.Str.bytes_eq, std.proofs.lemmas.List.{take-take, take_all, length-take-le}}
-use Rattle.{std.proofs.{lemmas.Bool.cases_lt, lemmas.Bool.Decides.eqb_tells}, koth_protocol.specs.{Lines.{lines_from, without_dot, without_return}, Request.{is_request, names_host, names_method}}}
+use Rattle.std.proofs.Common.{◌≡◌, ◌≢◌, ◌⊎◌, inl, inr, ℕ, ◌+◌, ◌-◌, ◌<◌, ◌≤◌, ◌==◌, ◌&&◌, ◌||◌, not, Bool, true, false, if◌then◌else◌, suc, List, [], ◌∷◌, ◌++◌, length, take, get_or, eqb-true, Option}
+use Rattle.{std.proofs.Common.{None, Some, refl, sym, ap, append-nil, append_assoc, subst, ◌∙◌, arith, codes}, std.specs.{List.list_all, Str.bytes_eq}, std.proofs.lemmas.List.{take-take, take_all, length-take-le}}
+use Rattle.{std.proofs.{lemmas.Bool.cases_lt, lemmas.Bool.Decides.eqb_tells}, koth_protocol.specs.{Lines.{lines_from, without_dot, without_return}, Request.{is_foreign, is_sent, names_host, names_method}}}
 use Rattle.koth_protocol.specs.{Commands.{Reader, kept_source, read_from, with_line, word_of}, Kept.kept, Reading.{IsReading, IsSourceKept, Reads, TakesCommand, TakesSourceLine, commands_met}}
 use Rattle.{koth_protocol.specs.{declared.script.Met.Met, declared.script.Script.Script, declared.script.Word.Word}, koth_protocol.proofs.Cuts.{Same, same_append, same_dot, same_entry, same_return}}
 
@@ -50,7 +50,7 @@ long_return (b ∷ c ∷ cs) = omega (arith, long_return (c ∷ cs))
 
 -- a line that is none of the three words
 abbrev other_word : List ℕ → Word
-other_word line = if is_request line then Word.Request else Word.Other
+other_word line = if is_foreign line then Word.Request else Word.Other
 
 long_word : (xs : List ℕ) → 100 < length xs → word_of (without_return xs) ≡ other_word (without_return xs)
 long_word xs long =
@@ -73,19 +73,26 @@ whole_or_long line =
     ]
 
 -- the beginning of a line stays if its end is cut off far after it
-long_start : (line : List ℕ) → 65540 < length line → take 8 (without_return (kept line)) ≡ take 8 (without_return line)
-long_start line long =
+long_start : (count : ℕ) (line : List ℕ) → count ≤ 256 → 65540 < length line → take count (without_return (kept line)) ≡ take count (without_return line)
+long_start count line few long =
     let cut : length (kept line) ≡ 65540 = length-take-le 65540 line (omega (arith, long)) in
-    ap (take 8) (sym (append-nil (without_return (kept line)))) ∙ same_return 8 (kept line) [] (omega (arith, cut)) ∙ take-take 8 65540 line (omega arith)
-    ∙ sym (same_return 8 line [] (omega (arith, long))) ∙ ap (take 8) (append-nil (without_return line))
+    ap (take count) (sym (append-nil (without_return (kept line)))) ∙ same_return count (kept line) [] (omega (arith, cut, few))
+    ∙ take-take count 65540 line (omega (arith, few))
+    ∙ sym (same_return count line [] (omega (arith, long, few))) ∙ ap (take count) (append-nil (without_return line))
 
-abbrev word_by_start : List ℕ → Word
-word_by_start start = if names_method start || names_host start then Word.Request else Word.Other
+abbrev word_by_start : List ℕ → List ℕ → Word
+word_by_start start front =
+    if (names_method start || names_host start) || not (list_all is_sent front) then Word.Request else Word.Other
+
+word_by_both : (line : List ℕ) → 65540 < length line → other_word (without_return (kept line)) ≡ other_word (without_return line)
+word_by_both line long =
+    ap (λ start. word_by_start start (take 256 (without_return (kept line)))) (long_start 8 line (omega arith) long)
+    ∙ ap (λ front. word_by_start (take 8 (without_return line)) front) (long_start 256 line (omega arith) long)
 
 pub word_kept : (line : List ℕ) → word_of (without_return (kept line)) ≡ word_of (without_return line)
 word_kept line = elim (whole_or_long line) [
   | inl whole ↦ ap (λ l. word_of (without_return l)) whole
-  | inr long ↦ long_word (kept line) (omega (arith, long.1)) ∙ ap word_by_start (long_start line long.0) ∙ sym (long_word line (omega (arith, long.0)))
+  | inr long ↦ long_word (kept line) (omega (arith, long.1)) ∙ word_by_both line long.0 ∙ sym (long_word line (omega (arith, long.0)))
 ]
 
 pub end_kept : (line : List ℕ) → bytes_eq (without_return (kept line)) (codes ".") ≡ bytes_eq (without_return line) (codes ".")

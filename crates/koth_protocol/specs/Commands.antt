@@ -1,6 +1,6 @@
 -- The commands of a session.
 use Rattle.std.specs.{Prelude.{ℕ, if◌then◌else◌, List, [], ◌∷◌, ◌++◌, take, Option, None, Some, codes}, Str.bytes_eq}
-use Rattle.koth_protocol.specs.{Lines.{lines_of, without_dot}, Request.is_request, declared.script.Word.Word}
+use Rattle.koth_protocol.specs.{Lines.{lines_of, without_dot}, Request.is_foreign, declared.script.Word.Word}
 
 pub data Command : Type 0 where
   Submit : List ℕ → Command
@@ -18,7 +18,7 @@ word_of line =
     if bytes_eq line (codes "SUBMIT") then Word.Submit else (
     if bytes_eq line (codes "SHOW") then Word.Show else (
     if bytes_eq line (codes "QUIT") then Word.Quit else (
-    if is_request line then Word.Request else Word.Other)))
+    if is_foreign line then Word.Request else Word.Other)))
 
 -- who reads: a session takes the request of a browser as a line that is no command, and a service reads no further
 pub data Reader : Type 0 where

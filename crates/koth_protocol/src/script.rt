@@ -4,7 +4,7 @@ ghost use Rattle.std.specs.{Prelude.{◌≡◌, ℕ, true, false, [], ◌∷◌,
 ghost use Rattle.koth_protocol.specs.{Commands.{kept_source, word_of}, Lines.{without_dot, without_return}, Reading.{IsReading, Reads, TakesCommand, TakesSourceLine}};
 
 use crate::kept::Kept;
-use crate::request::is_request;
+use crate::request::is_foreign;
 use std::alloc::{AllocError, Allocator};
 
 /// Bytes of a source that are passed on at most: one more than a source may have.
@@ -16,7 +16,7 @@ pub(crate) enum Word {
     Submit,
     Show,
     Quit,
-    /// Nothing: it is a request of HTTP.
+    /// Nothing: no author sends it.
     Request,
     Other,
 }
@@ -32,7 +32,7 @@ pub enum Met {
     Show,
     /// A line `QUIT`.
     Quit,
-    /// A line that is no command, and begins as a request of HTTP does: a browser sent it.
+    /// A line that is no command, and begins as a request of HTTP does or has a control byte: no author sent it.
     Request,
     /// Another line that is no command.
     Bad,
@@ -152,7 +152,7 @@ fn word_of(line: &[u8]) -> Word
         Word::Show
     } else if line == b"QUIT".as_slice() {
         Word::Quit
-    } else if is_request(line) {
+    } else if is_foreign(line) {
         Word::Request
     } else {
         Word::Other

@@ -18,7 +18,7 @@ pub enum HowEnded {
     By(PeerEnd),
     /// No byte came from the peer for 60 seconds, none of its answers went out, and no command of it was due.
     Silent,
-    /// The peer sent a request of HTTP in place of a command.
+    /// The peer sent a line in place of a command that no author sends: a request of HTTP, or one with a control byte.
     Browser,
     /// All places were taken and another peer waited: of the peers without a command that is due this one had gone longest without a whole line.
     Displaced,
