@@ -1,10 +1,11 @@
 -- A source without FOR and EQU: its lines are read once, and that takes no more than its bytes.
-use Rattle.std.proofs.Common.{ℕ, zero, suc, ◌+◌, ◌-◌, ◌/◌, ◌≤◌, min, Bool, List, [], ◌∷◌, ◌++◌, length, map, Option, Some, None, ◌≡◌, refl, unwrap_or, arith, length-drop, length-take}
+use Rattle.std.proofs.Common.{ℕ, zero, suc, ◌+◌, ◌-◌, ◌/◌, ◌≤◌, min, Bool, List, [], ◌∷◌, ◌++◌, length, map, take, Option, Some, None, ◌≡◌, refl, unwrap_or, arith, length-drop, length-take}
 use Rattle.std.proofs.{Common.{inl, inr}, lemmas.Bool.cases_Bool}
 use Rattle.{std.specs.Bool.⊤, war_types.specs.Title.{after_blanks, is_blank}, redcode_text.specs.Tokens.{pieces_of, rest_of_token, tokens_after, without_place}}
 use Rattle.redcode_lines.specs.{declared.source.Directive.Directive, Source.{NumberedLine, directive_from, directive_of, is_redcode, lines_of, live_lines, numbered_from, onto_first, redcode_on, remark_of}}
-use Rattle.redcode_lines.specs.{Line.{dropped_while, is_front, is_no_comment, line_word, statement_by, statement_tokens, taken_while}, Block.{line_by, statement_line}}
+use Rattle.redcode_lines.specs.{Line.{dropped_while, is_front, is_no_comment, line_word, statement_by, statement_tokens, taken_while, tokens_read}, Block.{line_by, statement_line}}
 use Rattle.redcode_expand.{specs.Steps.{reads, token_steps}, proofs.Words.{Piece, SourceLine, Word, source_lines}}
+use Rattle.redcode_text.specs.declared.vocabulary.Word.TheVariants as words
 
 -- ---- the tokens of a line
 
@@ -38,9 +39,24 @@ parts-few test (t ∷ ts) = elim (cases_Bool (test t)) [
 statement-few : (text : List ℕ) → token_steps (statement_tokens text) ≤ length text
 statement-few text = omega (arith, taken-few is_no_comment (pieces_of text), tokens-few (length text) 0 text)
 
-by-word : (n : ℕ) (word : Option Word) (ts : List Piece) → token_steps (statement_by n word ts).front + token_steps (statement_by n word ts).tokens ≡ token_steps ts
+first-few : (ts : List Piece) → token_steps (take 1 ts) ≤ token_steps ts
+first-few [] = omega arith
+first-few (t ∷ ts) = omega arith
+
+-- of a ROF its word alone is read
+read-few : (word : Word) (ts : List Piece) → token_steps (tokens_read (Some word) ts) ≤ token_steps ts
+read-few (words.Operation op) ts = omega arith
+read-few words.Pspace ts = omega arith
+read-few words.Equ ts = omega arith
+read-few words.For ts = omega arith
+read-few words.Rof ts = first-few ts
+read-few words.Org ts = omega arith
+read-few words.End ts = omega arith
+read-few words.Pin ts = omega arith
+
+by-word : (n : ℕ) (word : Option Word) (ts : List Piece) → token_steps (statement_by n word ts).front + token_steps (statement_by n word ts).tokens ≤ token_steps ts
 by-word n None ts = omega arith
-by-word n (Some word) ts = parts-few is_front ts
+by-word n (Some word) ts = omega (arith, parts-few is_front ts, read-few word (dropped_while is_front ts))
 
 statement-reads : (n : ℕ) (ts : List Piece) → reads (statement_line n ts) ≤ 1 + token_steps ts
 statement-reads n [] = omega arith
