@@ -2,7 +2,7 @@
 use Rattle.std.proofs.{Common.{◌≡◌, ◌∙◌, inl, inr, ℕ, ◌≤◌, ◌==◌, Bool, true, false, if◌then◌else◌, length, List, [], Option, None, Some, IsSome, ap, refl, sym, subst}, lemmas.Bool.cases_eq}
 use Rattle.sector_disk.specs.Facts.{DeviceFacts}
 use Rattle.{hill_store.specs.Seen.Seen, koth_session.specs.{Judge.{Fight, fighting, without}, Peers.IsOfOne}, koth_session.proofs.{Exchanges.served_none, Holding.keeps_list}}
-use Rattle.koth_service.specs.{Noted.Noted, Session.{Browser, Session}, Moment.{Happening, Moment, Round, Start, ended_in, instead, moment, noted, other_than}, History.{IsHistory, IsSafe, Shows}}
+use Rattle.koth_service.specs.{Noted.Noted, Session.{Browser, Session}, Moment.{Happening, Moment, Start, ended_in, instead, moment, noted}, Rounds.{Round, other_than}, History.{IsHistory, IsSafe, Shows}}
 use Rattle.koth_service.specs.{Standing.{AreAtStages, AreStanding, CameToBe, IsAtStage, IsRound, PeersNow}, declared.connections.Stage.Stage}
 use Rattle.koth_service.proofs.Moments.{instead_other, instead_same}
 

@@ -55,4 +55,4 @@ pub use limits::Limits;
 pub use log::LogWrite;
 pub use service::{ServiceFault, serve_peers};
 pub use sockets::{Arrival, Came, Drained, Sockets, Went};
-pub use times::{ANSWERING, ASKING, DRAIN, DRAINED_MOST, PATIENCE, RETRY, UNSPOKEN, UNUSED};
+pub use times::{ANSWERING, ASKING, DRAIN, DRAINED_MOST, PATIENCE, RETRY, SHARE, UNSPOKEN, UNUSED};

@@ -14,9 +14,21 @@ returns-in_default-clause-served g c = λ start browsers on. c.serve_one-step.en
 pub returns-in_default-clause-told : goal.returns-in_default-clause-told
 returns-in_default-clause-told g c = grows_on _ _ _ c.loop-turn.invariant.1 c.serve_one-step.ensures.told
 
-pub loop-turn-preserved : goal.loop-turn-preserved
-loop-turn-preserved g c = (
+pub loop-turn-preserved-in-Stepped : goal.loop-turn-preserved-in-Stepped
+loop-turn-preserved-in-Stepped g c = (
   λ start browsers on. rw c.in-Stepped.is at (c.serve_one-step.ensures.served start browsers (c.loop-turn.invariant.0 start browsers on)),
+  grows_on _ _ _ c.loop-turn.invariant.1 c.serve_one-step.ensures.told,
+)
+
+pub loop-turn-preserved-in-Served : goal.loop-turn-preserved-in-Served
+loop-turn-preserved-in-Served g c = (
+  λ start browsers on. rw c.in-Served.is at (c.serve_one-step.ensures.served start browsers (c.loop-turn.invariant.0 start browsers on)),
+  grows_on _ _ _ c.loop-turn.invariant.1 c.serve_one-step.ensures.told,
+)
+
+pub loop-turn-preserved-in-PutOff : goal.loop-turn-preserved-in-PutOff
+loop-turn-preserved-in-PutOff g c = (
+  λ start browsers on. rw c.in-PutOff.is at (c.serve_one-step.ensures.served start browsers (c.loop-turn.invariant.0 start browsers on)),
   grows_on _ _ _ c.loop-turn.invariant.1 c.serve_one-step.ensures.told,
 )
 
