@@ -12,7 +12,8 @@ use sector_disk::Device;
 use std::alloc::Allocator;
 
 /// Carries out one command at most, makes a step of a submission, or puts a source off, and has the host report what a submission was answered.
-/// The submission that is under way is served if its last step is `SHARE` milliseconds ago, whoever has the turn. A peer that sent a request in place of a command is disconnected.
+/// If the last step of the submission that is under way is `SHARE` milliseconds ago, the next one is made, whoever has the turn. A peer that sent
+/// a request in place of a command is disconnected.
 pub(crate) fn serve_one<S: Sockets, D: Device, A: Allocator + Copy, H: Host<D, A>, E: LogWrite>(
     desk: &mut Desk<D, A>,
     sockets: &mut S,

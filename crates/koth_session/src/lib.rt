@@ -19,8 +19,8 @@
 //! of it if the output fails. `line_of` and `table_of` give the program the same lines for its own outputs.
 //!
 //! Of many peers, a call on one leaves every other as it is (`OnlyAt`). The next one served is the first to which the turn may come after the
-//! one served last (`IsFirstDue`): it has a command due, and while a submission is under way it is the peer of that, or its source was not put
-//! off. Its command is the next of what came from it, and the answer is that on the hill which stands then (`Serves`). A step of a submission
+//! one served last (`IsNext`): it has a command due, and while a submission is under way it is the peer of that, or its source was not put off.
+//! Before all comes the peer of the submission that is under way, if that has its share, or if none is, a source that was put off. Its command is the next of what came from it, and the answer is that on the hill which stands then (`Serves`). A step of a submission
 //! changes neither the peers nor the store (`IsStepped`). Nor does a source of another peer that is put off then, but for its mark (`IsPutOff`).
 //! At most 4,096 bytes of a peer wait and 16,777,216 come, and at most 1,048,576 bytes of answers to it are unsent: beyond that its
 //! session ends, and no other. A service feeds them, and sends what they say.
