@@ -100,20 +100,21 @@ static PUT_OFF_BESIDE: [Act; 15] = [
     Act::Send(0, "PLACED 1 1 0\nPLACED 2 2 2\n"),
     Act::Send(1, ""),
     Act::Come(0, "SUBMIT\nJMP\n.\n"),
-    Act::Steps(&[Step::Stepped(1), Step::Served(0)]),
+    Act::Steps(&[Step::Stepped(1), Step::Stepped(1), Step::Served(0)]),
     Act::Send(0, "REFUSED 1 MissingOperand\n"),
     Act::Serve(&[Step::Served(1)]),
     Act::Steps(&[Step::Served(1), Step::Nobody]),
     Act::Send(1, "FELL 3 0\nREFUSED 1 MissingOperand\n"),
 ];
 
-/// A source that was put off isn't assembled again until no submission is under way, over two submissions of other peers.
+/// A source that was put off isn't assembled again until no submission is under way, over two submissions of other peers. Of two that were put off
+/// the first after the peer of the last submission is next.
 static PUT_OFF_BESIDE_TWO: [Act; 12] = [
     Act::Come(2, "SUBMIT\nMOV 0,1\n.\n"),
     Act::Steps(&[Step::Stepped(2)]),
-    Act::Come(1, "SUBMIT\nDAT 0,0\n.\n"),
-    Act::Steps(&[Step::PutOff(1)]),
     Act::Come(0, "SUBMIT\nJMP 0\n.\n"),
+    Act::Come(1, "SUBMIT\nDAT 0,0\n.\n"),
+    Act::Steps(&[Step::PutOff(0), Step::PutOff(1)]),
     Act::Steps(&[Step::Served(2), Step::Stepped(0), Step::Stepped(0)]),
     Act::Steps(&[Step::Served(0), Step::Stepped(1)]),
     Act::Serve(&[Step::Served(1)]),
