@@ -64,9 +64,10 @@ pub(crate) fn serve_browsers<
     ensures served { BrowsersShown S.happened D.facts (H.shows host.now) store.now pass.may_answer sockets.old browsers.old result.has_answered sockets.new browsers.new }
     ensures told { Grows (E.contents errors.old) (E.contents errors.new) }
 {
+    let admitted = admit::<S, D, A, H>(browsers, sockets, pass.now);
     let mut round = BrowsersRound {
         has_answered: false,
-        ..admit::<S, D, A, H>(browsers, sockets, pass.now)
+        ..admitted
     };
     for place in 0..browsers.len() {
         let number = browsers.number(place);

@@ -109,8 +109,10 @@ impl<D: Device, A: Allocator + Copy> Desk<D, A> {
         ensures { result ≡ true → MayShow (peers_of self.now) }
     {
         let passed = self.clock.saturating_sub(self.shares.shown_at);
-        let is_over = passed >= self.shares.took && self.clock >= self.shares.shown_at;
-        is_over || self.peers.is_idle(&self.judge)
+        if self.clock >= self.shares.shown_at && passed >= self.shares.took {
+            return true;
+        }
+        self.peers.is_idle(&self.judge)
     }
 
     /// These peers, none of whom is there yet, with a seat for each.

@@ -130,9 +130,10 @@ fn give_out<S: Sockets, D: Device, A: Allocator + Copy, H: Host<D, A>, E: LogWri
     desk.clock = desk.clock.max(sockets.now());
     send_all(desk, sockets, host, errors);
     part_all(desk, sockets, host, errors);
+    let may_answer = desk.may_show();
     let pass = Pass {
         now: desk.clock,
-        may_answer: desk.may_show(),
+        may_answer,
     };
     let round = serve_browsers(browsers, sockets, desk.judge.store(), host, errors, pass);
     desk.clock = desk.clock.max(sockets.now());

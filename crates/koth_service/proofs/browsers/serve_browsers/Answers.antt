@@ -4,7 +4,7 @@ use Rattle.koth_service.proofs.{Told.{grows_on, stays}, Visits.{may_still, shown
 use Rattle.koth_service.proofs.browsers.serve_browsers.Goals as goal
 
 pub loop-place-init : goal.loop-place-init
-loop-place-init g c = (λ start slots share on. c.admit.ensures c.args.store.now c.args.host.now start slots on, stays _)
+loop-place-init g c = (λ start slots share on. c.admit-admitted.ensures c.args.store.now c.args.host.now start slots on, stays _)
 
 pub loop-place-preserved : goal.loop-place-preserved
 loop-place-preserved g c = (

@@ -13,11 +13,11 @@ returns-clause-served g c = λ start on.
     let facts = g.D.Device.facts in
     let shows = g.H.Host.shows c.args.host.now in
     let desk = c.part_all.new.desk in
-    let goes = subst (λ (store : Seen _). BrowsersShown happened facts shows store c.may_show.result c.part_all.new.sockets c.args.browsers.now
+    let goes = subst (λ (store : Seen _). BrowsersShown happened facts shows store c.may_show-may_answer.result c.part_all.new.sockets c.args.browsers.now
     c.serve_browsers-round.result.has_answered c.serve_browsers-round.new.sockets c.serve_browsers-round.new.browsers) c.store.ensures c.serve_browsers-round.ensures.served in
     told_on happened facts shows start (stage_at c.serve_browsers-round.new.browsers.connections.items) c.serve_browsers-round.result.has_answered c.serve_browsers-round.new.sockets c.now-2.new.self (peers_of desk)
     desk.judge.store c.now-2.result c.max-desk-2.result (shares_of c.tell.new.self) c.now-2.ensures c.max-desk-2.ensures c.tell.ensures
-    (goes start (peers_of desk) c.may_show.ensures
+    (goes start (peers_of desk) c.may_show-may_answer.ensures
     (c.part_all.ensures.served start browsers (c.send_all.ensures.served start browsers (
     ticked happened facts shows start browsers c.args.sockets.now c.now.new.self (peers_of c.args.desk.now) c.args.desk.now.judge.store c.now.result
     c.max-desk.result c.now.ensures c.max-desk.ensures on))))

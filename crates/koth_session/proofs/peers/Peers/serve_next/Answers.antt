@@ -34,10 +34,10 @@ returns-in-Ok-clause-serves g c = λ of.
     subst (λ b. c.may_serve-is_first.result ≡ is_sought_in (Some share) b n (get_or slots n None)) c.busy.ensures
     (subst (λ s. c.may_serve-is_first.result ≡ is_sought_in (Some share) c.busy.result n s) (get_or_read slots n c.index-slot.result.now first.within c.index-slot.ensures None) c.may_serve-is_first.ensures)
     ∙ sought_first share busy n (get_or slots n None) first.due in
-    let after : c.after.result ≡ turn_after (goes_first_at share busy slots n) (n + 1) start.submission start =
-    c.after.ensures ∙ ap (λ b. turn_after b (n + 1) start.submission start) comes in
+    let after : c.after-self.result ≡ turn_after (goes_first_at share busy slots n) (n + 1) start.submission start =
+    c.after-self.ensures ∙ ap (λ b. turn_after b (n + 1) start.submission start) comes in
     let moves = moves_written (λ p q. IsServed g.D.Device.facts (Some c.args.steps) c.in-Ok.outcome n p judge q now) n slots c.index_mut.result.now slot first.within c.index_mut.ensures.value (c.in-Ok.ensures.served its) in
-    rw c.step_after.ensures (serves_next g.D.Device.facts (Some c.args.steps) share c.in-Ok.outcome n slots start judge (set slots n slot) c.after.result now
+    rw c.step_after.ensures (serves_next g.D.Device.facts (Some c.args.steps) share c.in-Ok.outcome n slots start judge (set slots n slot) c.after-self.result now
     (record { first = first; taken = taken; moves = moves; next_is = after }))
 
 pub returns-in-Ok-clause-of_one : goal.returns-in-Ok-clause-of_one
@@ -77,8 +77,8 @@ returns-in-Err-UnderWay-clause-serves g c = λ of.
     subst (λ b. c.may_serve-is_first.result ≡ is_sought_in (Some share) b n (get_or slots n None)) c.busy.ensures
     (subst (λ s. c.may_serve-is_first.result ≡ is_sought_in (Some share) c.busy.result n s) (get_or_read slots n c.index-slot.result.now first.within c.index-slot.ensures None) c.may_serve-is_first.ensures)
     ∙ sought_first share busy n (get_or slots n None) first.due in
-    let after : c.after.result ≡ turn_after (goes_first_at share busy slots n) (n + 1) start.submission start =
-    c.after.ensures ∙ ap (λ b. turn_after b (n + 1) start.submission start) comes in
+    let after : c.after-self.result ≡ turn_after (goes_first_at share busy slots n) (n + 1) start.submission start =
+    c.after-self.ensures ∙ ap (λ b. turn_after b (n + 1) start.submission start) comes in
     let moves = moves_written (λ p q. IsStepped n p judge q now) n slots c.index_mut.result.now slot first.within c.index_mut.ensures.value (rw c.in-Err-UnderWay.field-0-is at (c.in-Err-UnderWay.ensures.unanswered its)) in
     record { first = first; taken = taken; moves = moves; next_is = ap (λ (t : Turn). record { command = t.command; submission = n + 1 }) after }
 
@@ -119,8 +119,8 @@ returns-in-Err-PutOff-clause-serves g c = λ of.
     subst (λ b. c.may_serve-is_first.result ≡ is_sought_in (Some share) b n (get_or slots n None)) c.busy.ensures
     (subst (λ s. c.may_serve-is_first.result ≡ is_sought_in (Some share) c.busy.result n s) (get_or_read slots n c.index-slot.result.now first.within c.index-slot.ensures None) c.may_serve-is_first.ensures)
     ∙ sought_first share busy n (get_or slots n None) first.due in
-    let after : c.after.result ≡ turn_after (goes_first_at share busy slots n) (n + 1) start.submission start =
-    c.after.ensures ∙ ap (λ b. turn_after b (n + 1) start.submission start) comes in
+    let after : c.after-self.result ≡ turn_after (goes_first_at share busy slots n) (n + 1) start.submission start =
+    c.after-self.ensures ∙ ap (λ b. turn_after b (n + 1) start.submission start) comes in
     let moves = moves_written (λ p q. IsPutOff n p judge q now) n slots c.index_mut.result.now slot first.within c.index_mut.ensures.value (rw c.in-Err-PutOff.field-0-is at (c.in-Err-PutOff.ensures.unanswered its)) in
     record { first = first; taken = taken; moves = moves; next_is = after }
 
