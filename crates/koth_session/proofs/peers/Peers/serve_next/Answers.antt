@@ -11,7 +11,7 @@ serve_at-requires g c =
     let share = c.args.has_share in
     let busy = fighting c.args.judge.now.under_way in
     let first : IsNext share busy slots c.args.self.now.next n =
-    subst (λ b. IsNext share b slots c.args.self.now.next n) c.busy.ensures (subst (λ s. IsNext share c.busy.result s c.args.self.now.next n) c.as_slice.ensures.value c.in-Some.ensures) in
+    subst (λ b. IsNext share b slots c.args.self.now.next n) c.busy-busy.ensures (subst (λ s. IsNext share c.busy-busy.result s c.args.self.now.next n) c.as_slice.ensures.value c.in-Some.ensures) in
     subst (λ s. may_serve_in busy n s ≡ true) (sym (get_or_read slots n c.index_mut.result.now first.within c.index_mut.ensures.value None)) first.due
 
 pub returns-in-Ok-clause-serves : goal.returns-in-Ok-clause-serves
@@ -25,14 +25,14 @@ returns-in-Ok-clause-serves g c = λ of.
     let slot = c.serve_at.new.slot in
     let now = c.serve_at.new.judge in
     let first : IsNext share busy slots start n =
-    subst (λ b. IsNext share b slots start n) c.busy.ensures (subst (λ s. IsNext share c.busy.result s start n) c.as_slice.ensures.value c.in-Some.ensures) in
+    subst (λ b. IsNext share b slots start n) c.busy-busy.ensures (subst (λ s. IsNext share c.busy-busy.result s start n) c.as_slice.ensures.value c.in-Some.ensures) in
     let its : IsOfIn n c.index_mut.result.now judge =
     subst (λ s. IsOfIn n s judge) (sym (get_or_read slots n c.index_mut.result.now first.within c.index_mut.ensures.value None)) (of_in n slots judge of) in
     let taken : asks_at slots n ≡ false =
     subst (λ s. asks_in s ≡ false) (get_or_read slots n c.index-slot.result.now first.within c.index-slot.ensures None) (sym c.asks.ensures ∙ c.if-asks.false) in
     let comes : c.may_serve-is_first.result ≡ goes_first_at share busy slots n =
-    subst (λ b. c.may_serve-is_first.result ≡ is_sought_in (Some share) b n (get_or slots n None)) c.busy.ensures
-    (subst (λ s. c.may_serve-is_first.result ≡ is_sought_in (Some share) c.busy.result n s) (get_or_read slots n c.index-slot.result.now first.within c.index-slot.ensures None) c.may_serve-is_first.ensures)
+    subst (λ b. c.may_serve-is_first.result ≡ is_sought_in (Some share) b n (get_or slots n None)) c.busy-busy.ensures
+    (subst (λ s. c.may_serve-is_first.result ≡ is_sought_in (Some share) c.busy-busy.result n s) (get_or_read slots n c.index-slot.result.now first.within c.index-slot.ensures None) c.may_serve-is_first.ensures)
     ∙ sought_first share busy n (get_or slots n None) first.due in
     let after : c.after-self.result ≡ turn_after (goes_first_at share busy slots n) (n + 1) start.submission start =
     c.after-self.ensures ∙ ap (λ b. turn_after b (n + 1) start.submission start) comes in
@@ -51,7 +51,7 @@ returns-in-Ok-clause-of_one g c = λ of.
     let slot = c.serve_at.new.slot in
     let now = c.serve_at.new.judge in
     let first : IsNext share busy slots start n =
-    subst (λ b. IsNext share b slots start n) c.busy.ensures (subst (λ s. IsNext share c.busy.result s start n) c.as_slice.ensures.value c.in-Some.ensures) in
+    subst (λ b. IsNext share b slots start n) c.busy-busy.ensures (subst (λ s. IsNext share c.busy-busy.result s start n) c.as_slice.ensures.value c.in-Some.ensures) in
     let its : IsOfIn n c.index_mut.result.now judge =
     subst (λ s. IsOfIn n s judge) (sym (get_or_read slots n c.index_mut.result.now first.within c.index_mut.ensures.value None)) (of_in n slots judge of) in
     let moves = moves_written (λ p q. IsServed g.D.Device.facts (Some c.args.steps) c.in-Ok.outcome n p judge q now) n slots c.index_mut.result.now slot first.within c.index_mut.ensures.value (c.in-Ok.ensures.served its) in
@@ -68,14 +68,14 @@ returns-in-Err-UnderWay-clause-serves g c = λ of.
     let slot = c.serve_at.new.slot in
     let now = c.serve_at.new.judge in
     let first : IsNext share busy slots start n =
-    subst (λ b. IsNext share b slots start n) c.busy.ensures (subst (λ s. IsNext share c.busy.result s start n) c.as_slice.ensures.value c.in-Some.ensures) in
+    subst (λ b. IsNext share b slots start n) c.busy-busy.ensures (subst (λ s. IsNext share c.busy-busy.result s start n) c.as_slice.ensures.value c.in-Some.ensures) in
     let its : IsOfIn n c.index_mut.result.now judge =
     subst (λ s. IsOfIn n s judge) (sym (get_or_read slots n c.index_mut.result.now first.within c.index_mut.ensures.value None)) (of_in n slots judge of) in
     let taken : asks_at slots n ≡ false =
     subst (λ s. asks_in s ≡ false) (get_or_read slots n c.index-slot.result.now first.within c.index-slot.ensures None) (sym c.asks.ensures ∙ c.if-asks.false) in
     let comes : c.may_serve-is_first.result ≡ goes_first_at share busy slots n =
-    subst (λ b. c.may_serve-is_first.result ≡ is_sought_in (Some share) b n (get_or slots n None)) c.busy.ensures
-    (subst (λ s. c.may_serve-is_first.result ≡ is_sought_in (Some share) c.busy.result n s) (get_or_read slots n c.index-slot.result.now first.within c.index-slot.ensures None) c.may_serve-is_first.ensures)
+    subst (λ b. c.may_serve-is_first.result ≡ is_sought_in (Some share) b n (get_or slots n None)) c.busy-busy.ensures
+    (subst (λ s. c.may_serve-is_first.result ≡ is_sought_in (Some share) c.busy-busy.result n s) (get_or_read slots n c.index-slot.result.now first.within c.index-slot.ensures None) c.may_serve-is_first.ensures)
     ∙ sought_first share busy n (get_or slots n None) first.due in
     let after : c.after-self.result ≡ turn_after (goes_first_at share busy slots n) (n + 1) start.submission start =
     c.after-self.ensures ∙ ap (λ b. turn_after b (n + 1) start.submission start) comes in
@@ -93,7 +93,7 @@ returns-in-Err-UnderWay-clause-of_one g c = λ of.
     let slot = c.serve_at.new.slot in
     let now = c.serve_at.new.judge in
     let first : IsNext share busy slots start n =
-    subst (λ b. IsNext share b slots start n) c.busy.ensures (subst (λ s. IsNext share c.busy.result s start n) c.as_slice.ensures.value c.in-Some.ensures) in
+    subst (λ b. IsNext share b slots start n) c.busy-busy.ensures (subst (λ s. IsNext share c.busy-busy.result s start n) c.as_slice.ensures.value c.in-Some.ensures) in
     let its : IsOfIn n c.index_mut.result.now judge =
     subst (λ s. IsOfIn n s judge) (sym (get_or_read slots n c.index_mut.result.now first.within c.index_mut.ensures.value None)) (of_in n slots judge of) in
     let moves = moves_written (λ p q. IsStepped n p judge q now) n slots c.index_mut.result.now slot first.within c.index_mut.ensures.value (rw c.in-Err-UnderWay.field-0-is at (c.in-Err-UnderWay.ensures.unanswered its)) in
@@ -110,14 +110,14 @@ returns-in-Err-PutOff-clause-serves g c = λ of.
     let slot = c.serve_at.new.slot in
     let now = c.serve_at.new.judge in
     let first : IsNext share busy slots start n =
-    subst (λ b. IsNext share b slots start n) c.busy.ensures (subst (λ s. IsNext share c.busy.result s start n) c.as_slice.ensures.value c.in-Some.ensures) in
+    subst (λ b. IsNext share b slots start n) c.busy-busy.ensures (subst (λ s. IsNext share c.busy-busy.result s start n) c.as_slice.ensures.value c.in-Some.ensures) in
     let its : IsOfIn n c.index_mut.result.now judge =
     subst (λ s. IsOfIn n s judge) (sym (get_or_read slots n c.index_mut.result.now first.within c.index_mut.ensures.value None)) (of_in n slots judge of) in
     let taken : asks_at slots n ≡ false =
     subst (λ s. asks_in s ≡ false) (get_or_read slots n c.index-slot.result.now first.within c.index-slot.ensures None) (sym c.asks.ensures ∙ c.if-asks.false) in
     let comes : c.may_serve-is_first.result ≡ goes_first_at share busy slots n =
-    subst (λ b. c.may_serve-is_first.result ≡ is_sought_in (Some share) b n (get_or slots n None)) c.busy.ensures
-    (subst (λ s. c.may_serve-is_first.result ≡ is_sought_in (Some share) c.busy.result n s) (get_or_read slots n c.index-slot.result.now first.within c.index-slot.ensures None) c.may_serve-is_first.ensures)
+    subst (λ b. c.may_serve-is_first.result ≡ is_sought_in (Some share) b n (get_or slots n None)) c.busy-busy.ensures
+    (subst (λ s. c.may_serve-is_first.result ≡ is_sought_in (Some share) c.busy-busy.result n s) (get_or_read slots n c.index-slot.result.now first.within c.index-slot.ensures None) c.may_serve-is_first.ensures)
     ∙ sought_first share busy n (get_or slots n None) first.due in
     let after : c.after-self.result ≡ turn_after (goes_first_at share busy slots n) (n + 1) start.submission start =
     c.after-self.ensures ∙ ap (λ b. turn_after b (n + 1) start.submission start) comes in
@@ -135,7 +135,7 @@ returns-in-Err-PutOff-clause-of_one g c = λ of.
     let slot = c.serve_at.new.slot in
     let now = c.serve_at.new.judge in
     let first : IsNext share busy slots start n =
-    subst (λ b. IsNext share b slots start n) c.busy.ensures (subst (λ s. IsNext share c.busy.result s start n) c.as_slice.ensures.value c.in-Some.ensures) in
+    subst (λ b. IsNext share b slots start n) c.busy-busy.ensures (subst (λ s. IsNext share c.busy-busy.result s start n) c.as_slice.ensures.value c.in-Some.ensures) in
     let its : IsOfIn n c.index_mut.result.now judge =
     subst (λ s. IsOfIn n s judge) (sym (get_or_read slots n c.index_mut.result.now first.within c.index_mut.ensures.value None)) (of_in n slots judge of) in
     let moves = moves_written (λ p q. IsPutOff n p judge q now) n slots c.index_mut.result.now slot first.within c.index_mut.ensures.value (rw c.in-Err-PutOff.field-0-is at (c.in-Err-PutOff.ensures.unanswered its)) in
