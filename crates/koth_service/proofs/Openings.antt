@@ -4,7 +4,7 @@ use Rattle.sector_disk.specs.Facts.{DeviceFacts}
 use Rattle.hill_store.specs.Seen.{Seen}
 use Rattle.koth_session.specs.{Judge.{Fight, fighting}, Peers.{IsOfOne, first_turn, peer_at}, declared.{peer.Peer.Peer, peers.Step.Step}}
 use Rattle.koth_service.specs.{Noted.Noted, Seats.seat_at, Moment.{Happening, Moment, Start, beginning, moment}, Rounds.shares_anew, History.{OpensAgain, Reopens, Shows}}
-use Rattle.koth_service.specs.{Services.{IsReopened, IsSoundAfter}, Standing.{GoesOn, IsAtStage, IsCutOff, PeersNow, StandsAfter, StandsAt, peers_of}}
+use Rattle.koth_service.specs.{Services.{IsReopened, IsSoundAfter, IsWithoutFault}, Standing.{GoesOn, IsAtStage, IsCutOff, PeersNow, StandsAfter, StandsAt, peers_of}}
 use Rattle.koth_service.{specs.declared.{connections.Stage.Stage, desk.Desk.Desk, seats.Seat.Seat}, proofs.Stages.{came_to_be, safe_anew}}
 
 module _ {S D A : Type 0} (happened : S → List Noted → Type 0) (facts : DeviceFacts D) (shows : Shows D) (start : Start D) (browsers : ℕ → Option (Stage A)) where
@@ -45,6 +45,16 @@ module _ {S D A : Type 0} (happened : S → List Noted → Type 0) (facts : Devi
   same_desk : (old new : Desk D A) (sockets : S) → new ≡ old → GoesOn happened facts shows start sockets (peers_of old) browsers old.judge.store
       → GoesOn happened facts shows start sockets (peers_of new) browsers new.judge.store
   same_desk old new sockets same on = subst (λ (desk : Desk D A). GoesOn happened facts shows start sockets (peers_of desk) browsers desk.judge.store) (sym same) on
+
+  -- a step in which the device did not fail
+  pub without_fault : (step : Step) (peers : PeersNow A) (store : Seen D) (sockets : S) → IsWithoutFault step → StandsAfter happened facts shows step start sockets peers browsers store
+      → GoesOn happened facts shows start sockets peers browsers store
+  without_fault Step.Nobody peers store sockets sound on = on
+  without_fault (Step.Served n) peers store sockets sound on = on
+  without_fault (Step.Stepped n) peers store sockets sound on = on
+  without_fault (Step.PutOff n) peers store sockets sound on = on
+  without_fault (Step.Asked n) peers store sockets sound on = on
+  without_fault (Step.StoreFailed n) peers store sockets sound cut = absurd sound
 
   pub sound_after : (step : Step) (old new : Desk D A) (sockets : S) → IsSoundAfter facts step old new
       → StandsAfter happened facts shows step start sockets (peers_of old) browsers old.judge.store → GoesOn happened facts shows start sockets (peers_of new) browsers new.judge.store

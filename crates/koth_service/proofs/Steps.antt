@@ -79,6 +79,7 @@ module _ {S D A : Type 0} (happened : S → List Noted → Type 0) (facts : Devi
   pub ticked_on : (old new : S) (was : PeersNow A) (store : Seen D) (time clock : ℕ) → Adds happened (Noted.Clock time) old new → clock ≡ max was.clock time
       → GoesOn happened facts shows start old was browsers store
       → (on : GoesOn happened facts shows start new (timed_to clock was.read_at was) browsers store) × ((moment start on.0).round.before ≡ was.clock)
+  unfolding ticked
   ticked_on old new was store time clock adds is on = (ticked old new was store time clock adds is on, on.1.round.clock)
 
   -- the time was told, and a browser was answered before, or none was

@@ -1,5 +1,5 @@
 -- How a service begins, how its hill is opened again, and what it has done by its end.
-use Rattle.std.specs.Prelude.{◌≡◌, ℕ, ◌≤◌, false, List, [], length, Option, None, Some, Result, IfOk}
+use Rattle.std.specs.Prelude.{◌≡◌, ⊤, ℕ, ◌≤◌, false, List, [], length, Option, None, Some, Result, IfOk}
 use Rattle.{war_types.specs.declared.settings.RawSettings.RawSettings, sector_disk.specs.Facts.DeviceFacts}
 use Rattle.hill_store.specs.{Holding.IsHolding, Seen.Seen}
 use Rattle.koth_session.specs.{Peers.{first_turn, peer_at}, declared.peers.Step.Step}
@@ -21,6 +21,15 @@ IsSoundAfter facts (Step.Stepped n) old new = new ≡ old
 IsSoundAfter facts (Step.PutOff n) old new = new ≡ old
 IsSoundAfter facts (Step.Asked n) old new = new ≡ old
 IsSoundAfter facts (Step.StoreFailed n) old new = IsReopened facts old new
+
+-- the device did not fail in this step
+abbrev pub IsWithoutFault : Step → Type 0
+IsWithoutFault Step.Nobody = ⊤
+IsWithoutFault (Step.Served n) = ⊤
+IsWithoutFault (Step.Stepped n) = ⊤
+IsWithoutFault (Step.PutOff n) = ⊤
+IsWithoutFault (Step.Asked n) = ⊤
+IsWithoutFault (Step.StoreFailed n) = ⊥
 
 -- as many sessions have ended as were asked for
 abbrev pub HaveEnded : Option ℕ → ℕ → Type 0

@@ -2,7 +2,7 @@
 //! Each function says so of the connections that it moves, however the peers and the other browsers stand.
 #![tactic(auto, using(crate::proofs::Told::stays))]
 
-ghost use Rattle.{std.specs.Prelude.[], hill_store.specs.Seen.Seen};
+ghost use Rattle.{std.specs.Prelude.{[], ◌≡◌, ◌&&◌, not}, hill_store.specs.Seen.Seen};
 ghost use Rattle.koth_service.specs.Connections.{
   BrowsersGoOn,
   BrowsersShown,
@@ -45,6 +45,18 @@ pub(crate) struct Pass {
     pub(crate) may_answer: bool,
 }
 
+impl Pass {
+    /// The same, but none may be answered if one was.
+    fn after(self, has_answered: bool) -> Pass
+        ensures { result.may_answer ≡ (self.may_answer && not has_answered) }
+    {
+        Pass {
+            may_answer: self.may_answer && !has_answered,
+            ..self
+        }
+    }
+}
+
 /// Takes a connection of a browser that waits, and moves each connection on. One request is answered at most, if one may be: the others wait for
 /// their turn, since a page takes time in which no peer is served. The host reports that request.
 pub(crate) fn serve_browsers<
@@ -71,10 +83,7 @@ pub(crate) fn serve_browsers<
     };
     for place in 0..browsers.len() {
         let number = browsers.number(place);
-        let next = Pass {
-            may_answer: pass.may_answer && !round.has_answered,
-            ..pass
-        };
+        let next = pass.after(round.has_answered);
         let moved = move_on(browsers, sockets, store, host, errors, number, next);
         round.moved |= moved.moved;
         round.has_answered |= moved.has_answered;

@@ -2,7 +2,7 @@
 #![tactic(auto, using(crate::proofs::Told::stays))]
 
 ghost use Rattle.std.specs.Prelude.{◌≡◌, ℕ, None, false, IfOk};
-ghost use Rattle.koth_service.specs.{Connections.{stage_at, AllGoOn}, Services.{IsBegun, IsReopened, IsSoundAfter, ServesPeers, start_at, start_of}, Standing.{AreAwaited, KeepsOn, KeepsOnBy}, Told.Grows};
+ghost use Rattle.koth_service.specs.{Connections.{stage_at, AllGoOn}, Services.{IsBegun, IsReopened, IsSoundAfter, IsWithoutFault, ServesPeers, start_at, start_of}, Standing.{AreAwaited, KeepsOn, KeepsOnBy}, Told.Grows};
 
 use crate::arrivals::take_arrivals;
 use crate::browsers::{Pass, serve_browsers};
@@ -161,17 +161,24 @@ fn take_in<S: Sockets, D: Device, A: Allocator + Copy, H: Host<D, A>, E: LogWrit
     take_arrivals(desk, sockets, host, errors);
     for _turn in 0..STEPS {
         let step = serve_one(desk, sockets, host, errors);
-        match step {
-            Step::Stepped(_) => {}
-            Step::Served(_) => {}
-            Step::PutOff(_) => {}
-            _ => return step,
+        if ends_round(step) {
+            return step;
         }
         if desk.clock > desk.read_at {
             return step;
         }
     }
     Step::Nobody
+}
+
+/// Whether a round ends with this step: nobody is served in it, a peer is disconnected, or the device failed.
+fn ends_round(step: Step) -> bool
+    ensures { result ≡ false → IsWithoutFault step }
+{
+    match step {
+        Step::Served(_) | Step::Stepped(_) | Step::PutOff(_) => false,
+        Step::Nobody | Step::Asked(_) | Step::StoreFailed(_) => true,
+    }
 }
 
 /// Waits until something comes or may go, but not after a round in which it did. It waits no longer than a peer may be silent or a browser is

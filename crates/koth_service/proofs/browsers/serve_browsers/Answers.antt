@@ -1,5 +1,5 @@
 -- One connection after the other.
-use Rattle.{std.proofs.Common.{◌||◌, subst}, koth_service.specs.{Connections.stage_at, Standing.{GoesOn, shown_to}}}
+use Rattle.{std.proofs.Common.{◌∙◌, subst, sym}, koth_service.specs.{Connections.stage_at, Standing.{GoesOn, shown_to}}}
 use Rattle.koth_service.proofs.{Told.{grows_on, stays}, Visits.{may_still, shown_twice}}
 use Rattle.koth_service.proofs.browsers.serve_browsers.Goals as goal
 
@@ -12,7 +12,7 @@ loop-place-preserved g c = (
       let was = c.loop-place.round.has_answered in
       subst (λ peers. GoesOn g.S.Sockets.happened g.D.Device.facts (g.H.Host.shows c.args.host.now) start c.move_on-moved.new.sockets peers (stage_at c.move_on-moved.new.browsers.connections.items) c.args.store.now)
       (shown_twice was c.move_on-moved.result.has_answered slots)
-      (c.move_on-moved.ensures.served start (shown_to was slots) (may_still c.args.pass.may_answer was slots share) (c.loop-place.invariant.0 start slots share on)),
+      (c.move_on-moved.ensures.served start (shown_to was slots) (λ is. may_still c.args.pass.may_answer was slots share (sym c.after-next.ensures ∙ is)) (c.loop-place.invariant.0 start slots share on)),
   grows_on _ _ _ c.loop-place.invariant.1 c.move_on-moved.ensures.told,
 )
 
