@@ -1,5 +1,5 @@
 -- How a history goes on by a command, by a step of a submission, or by a source that is put off.
-use Rattle.std.proofs.Common.{◌≡◌, ℕ, ◌+◌, ◌-◌, nat_le, Bool, true, false, true≢false, length, List, [], ◌∷◌, Option, None, Some, IsSome, refl, sym, ap, subst, ◌∙◌}
+use Rattle.std.proofs.Common.{◌≡◌, ℕ, ◌+◌, Bool, true, false, true≢false, length, List, [], ◌∷◌, Option, None, Some, IsSome, refl, sym, ap, subst, ◌∙◌}
 use Rattle.sector_disk.specs.Facts.{DeviceFacts}
 use Rattle.hill_store.specs.Seen.{Assembled, MayBeSpent, Seen}
 use Rattle.koth_protocol.specs.Commands.{Command, kept_source}
@@ -8,17 +8,11 @@ use Rattle.koth_session.specs.{Judge.{Fight, Judged, fighting, without}, Peer.{I
 use Rattle.koth_session.specs.Peers.{IsOfOne, IsPutOff, IsServed, IsStepped, ServesNext, ServesOne, Slots, asks_in, may_serve_in, peer_at, step_after, turn_after}
 use Rattle.koth_session.{specs.declared.{end.PeerEnd.PeerEnd, peer.Peer.Peer, peers.Step.Step, turns.Turn.Turn}, proofs.Steps.same_store}
 use Rattle.koth_service.specs.{Noted.Noted, Seats.{SeatMoves, Seats, seat_at, seat_map, seat_served}, Session.{session_answered, session_over, session_put_off}}
-use Rattle.koth_service.specs.{Moment.{Happening, Moment, Start, is_first, moment}, Rounds.{Round, Shares, has_share, other_than, round_after, shares_stepped}, History.{Answers, Breaks, Fights, HasNoRoom, MayDisconnect, PutsOff, Shows, Stops}}
+use Rattle.koth_service.specs.{Moment.{Happening, Moment, Start, is_first, moment}, Rounds.{Shares, has_share, other_than, round_after, shares_stepped}, History.{Answers, Breaks, Fights, HasNoRoom, MayDisconnect, PutsOff, Shows, Stops}}
 use Rattle.koth_service.specs.Standing.{AreStanding, CameToBe, GoesOn, IsCutOff, IsRound, PeersNow, StandsAt, fought_to, over_by, stepped_to}
-use Rattle.koth_service.{specs.declared.{connections.Stage.Stage, host.HowEnded.HowEnded, seats.Seat.Seat, times.TheConstants.SHARE}, proofs.Moments.only_seats}
+use Rattle.koth_service.{specs.declared.{connections.Stage.Stage, host.HowEnded.HowEnded, seats.Seat.Seat}, proofs.Moments.only_seats}
 use Rattle.koth_service.proofs.{Stages.{came_to_be, fighting_without, others_fight, safe_on, some_fights, some_under_way}, Causes.asks}
-use Rattle.koth_service.proofs.{Turns.{IsServing, IsThere, after, stays_standing, there, turn_by}, Outcomes.{answered_at, ended_at, put_off_at, safe_answered, stepped_at}}
-
--- whether the submission has its share, by the time at which the command was begun
-pub shared_at : {A : Type 0} (share : Bool) (r : Round) (was : PeersNow A) (clock : ℕ) → IsRound r was → r.before ≡ clock → share ≡ nat_le SHARE (clock - was.shares.stepped_at)
-    → share ≡ has_share r
-shared_at share r was clock round before is =
-    is ∙ ap (λ (c : ℕ). nat_le SHARE (c - was.shares.stepped_at)) (sym before) ∙ ap (λ (s : Shares). nat_le SHARE (r.before - s.stepped_at)) (sym round.shares)
+use Rattle.koth_service.proofs.{Turns.{IsServing, IsThere, after, stays_standing, there, turn_by, turn_on, turn_on_same}, Outcomes.{answered_at, ended_at, put_off_at, safe_answered, stepped_at}}
 
 -- a seat that stays as it is
 same_seat : (seat : Option Seat) → seat ≡ seat_map (λ x. x) seat
@@ -35,17 +29,6 @@ IsServingSo facts steps outcome share n time was new seats turn judge now =
 
 module _ {S D A : Type 0} (happened : S → List Noted → Type 0) (facts : DeviceFacts D) (shows : Shows D) (start : Start D) (browsers : ℕ → Option (Stage A)) (sockets : S)
     (steps : ℕ) (same_steps : (store : Seen D) → steps ≡ (shows store).steps) (share : Bool) where
-  -- where the turns go on
-  turn_on : (n submission : ℕ) (m : Moment D) (was turn : Turn) (first : Bool) → m.round.turn ≡ was → is_first n m ≡ first → turn ≡ turn_after first (n + 1) submission was
-      → turn_after (is_first n m) (n + 1) submission m.round.turn ≡ turn
-  turn_on n submission m was turn first same comes is =
-      ap (λ (t : Turn). turn_after (is_first n m) (n + 1) submission t) same ∙ ap (λ (b : Bool). turn_after b (n + 1) submission was) comes ∙ sym is
-
-  turn_on_same : (n : ℕ) (m : Moment D) (was turn : Turn) (first : Bool) → m.round.turn ≡ was → is_first n m ≡ first → turn ≡ turn_after first (n + 1) was.submission was
-      → turn_after (is_first n m) (n + 1) m.round.turn.submission m.round.turn ≡ turn
-  turn_on_same n m was turn first same comes is =
-      ap (λ (t : Turn). turn_after (is_first n m) (n + 1) t.submission m.round.turn) same ∙ turn_on n was.submission m was turn first same comes is
-
   -- the round after it
   round_served : (n : ℕ) (turn : Turn) (m : Moment D) (was : PeersNow A) (new : Slots A) (seats : Seats) (under_way : Option Fight) (judge : Judged D) (first : Bool) → IsRound m.round was
       → is_first n m ≡ first → turn ≡ turn_after first (n + 1) was.turn.submission was.turn → was.under_way ≡ judge.under_way → under_way ≡ without n judge.under_way

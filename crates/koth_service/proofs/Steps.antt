@@ -10,7 +10,7 @@ use Rattle.koth_service.specs.{Noted.{Adds, Noted, Stays}, Seats.{OnlySeat, Seat
 use Rattle.koth_service.specs.{Moment.{Happening, Start, ended_in, moment, noted}, Rounds.{Shares, other_than, shares_at}, History.{MayDisconnect, Shows}}
 use Rattle.koth_service.specs.Standing.{AwaitedIn, GoesOn, PeersNow, moved_to, served_to, shares_by, shown_to, timed_to, told_to}
 use Rattle.koth_service.{specs.declared.{connections.Stage.Stage, host.HowEnded.HowEnded, seats.{Draining.Draining, Seat.Seat}}, proofs.{Due.finished_at, Causes.not_silent}}
-use Rattle.koth_service.proofs.Stages.{came_to_be, fighting_without, safe_on}
+use Rattle.koth_service.proofs.Stages.{came_to_be, fighting_without, safe_on, told_shares}
 use Rattle.koth_service.proofs.Moments.{few_from, free_at, instead_same, owed_to, standing_came, standing_closed, standing_drained, standing_left, standing_lost, standing_new, standing_shut}
 use Rattle.koth_service.proofs.Moments.{standing_went, there_at}
 
@@ -25,11 +25,6 @@ there_by_unsent slots n some = λ none. some (ap unsent_in none)
 -- a peer of which bytes may come is there
 pub there_by_room : {A : Type 0} (slots : Slots A) (n room : ℕ) → room ≡ may_come_at slots n → room ≢ 0 → peer_at slots n ≢ None
 there_by_room slots n room is some = λ none. some (is ∙ ap may_come_in none)
-
--- the shares when the time was told
-told_shares : (from was time clock : ℕ) (shares now : Shares) → from ≡ was → clock ≡ max was time → shares ≡ now → shares_at from (max from time) shares ≡ shares_at was clock now
-told_shares from was time clock shares now same is are =
-    ap (λ (s : Shares). shares_at from (max from time) s) are ∙ ap (λ (c : ℕ). shares_at c (max c time) now) same ∙ ap (λ (c : ℕ). shares_at was c now) (sym is)
 
 module _ {S D A : Type 0} (happened : S → List Noted → Type 0) (facts : DeviceFacts D) (shows : Shows D) (start : Start D) (browsers : ℕ → Option (Stage A)) where
   -- nothing happened
@@ -76,8 +71,7 @@ module _ {S D A : Type 0} (happened : S → List Noted → Type 0) (facts : Devi
       )
 
   -- a command was begun when the time before it was told
-  pub ticked_on : (old new : S) (was : PeersNow A) (store : Seen D) (time clock : ℕ) → Adds happened (Noted.Clock time) old new → clock ≡ max was.clock time
-      → GoesOn happened facts shows start old was browsers store
+  pub ticked_on : (old new : S) (was : PeersNow A) (store : Seen D) (time clock : ℕ) → Adds happened (Noted.Clock time) old new → clock ≡ max was.clock time → GoesOn happened facts shows start old was browsers store
       → (on : GoesOn happened facts shows start new (timed_to clock was.read_at was) browsers store) × ((moment start on.0).round.before ≡ was.clock)
   unfolding ticked
   ticked_on old new was store time clock adds is on = (ticked old new was store time clock adds is on, on.1.round.clock)
@@ -89,8 +83,7 @@ module _ {S D A : Type 0} (happened : S → List Noted → Type 0) (facts : Devi
   told_on false old new was store time clock shares adds is same on =
       subst (λ (s : Shares). GoesOn happened facts shows start new (told_to clock s was) browsers store) (sym same) (ticked old new was store time clock adds is on)
   told_on true old new was store time clock shares adds is same on =
-      subst (λ (s : Shares). GoesOn happened facts shows start new (told_to clock s was) browsers store) (sym same)
-      (ticked old new (shown_to true was) store time clock adds is on)
+      subst (λ (s : Shares). GoesOn happened facts shows start new (told_to clock s was) browsers store) (sym same) (ticked old new (shown_to true was) store time clock adds is on)
 
   -- it was told at the end of a wait, at which nobody was silent for too long
   pub waited : (old new : S) (was : PeersNow A) (store : Seen D) (time clock : ℕ) → Adds happened (Noted.Waited time) old new → clock ≡ max was.clock time

@@ -1,14 +1,14 @@
 -- Whose turn it is, by how the peers and their seats stand.
-use Rattle.std.proofs.Common.{◌≡◌, inl, inr, ℕ, ◌+◌, Bool, true, false, true≢false, List, [], ◌∷◌, ◌++◌, Option, None, Some, refl, sym, ap, subst, ◌∙◌, append_assoc, ◌⊎◌, ◌==◌, ◌&&◌, ◌||◌}
+use Rattle.std.proofs.Common.{◌≡◌, inl, inr, ℕ, ◌+◌, ◌-◌, nat_le, Bool, true, false, true≢false, List, [], ◌∷◌, ◌++◌, Option, None, Some, refl, sym, ap, subst, ◌∙◌, append_assoc, ◌⊎◌, ◌==◌, ◌&&◌, ◌||◌}
 use Rattle.std.proofs.{Common.not, lemmas.Bool.{cases_eq, Decides.eqb_tells}}
 use Rattle.sector_disk.specs.Facts.{DeviceFacts}
 use Rattle.koth_protocol.specs.{Commands.{Command, Reader, commands_read, kept_source}, declared.script.Met.Met}
 use Rattle.koth_session.{proofs.Fights.may_serve_now, specs.{Inbox.{IsTaken, is_met, is_request}, Judge.{Judged, fighting}}}
 use Rattle.koth_session.specs.Peer.{HasRead, IsPeer, command_due, command_of, is_due, is_due_now}
-use Rattle.koth_session.specs.Peers.{IsAhead, IsNext, Moves, ServesOne, Slots, asks_in, goes_first, goes_first_at, goes_first_in, is_due_in, may_serve_in, peer_at, is_beside}
+use Rattle.koth_session.specs.Peers.{IsAhead, IsNext, Moves, ServesOne, Slots, asks_in, goes_first, goes_first_at, goes_first_in, is_due_in, may_serve_in, peer_at, is_beside, turn_after}
 use Rattle.koth_session.{specs.declared.{end.PeerEnd.PeerEnd, inbox.Inbox.Inbox, peer.Peer.Peer, turns.Turn.Turn}, proofs.Standing.{behind_met, those_came}}
-use Rattle.koth_service.specs.{Seats.{SeatMoves, Seats, seat_at, seat_map}, Session.Session, Moment.{Moment, instead, is_first}, Rounds.has_share, History.{Begins, IsBeside, IsTurn, MayBeServed}}
-use Rattle.koth_service.{specs.{Standing.{AreStanding, IsRound, PeersNow, Stands, StandsAt}, declared.seats.Seat.Seat}, proofs.{Moments.{at_both, standing_with}, Due.{idle, not_over}}}
+use Rattle.koth_service.specs.{Seats.{SeatMoves, Seats, seat_at, seat_map}, Session.Session, Moment.{Moment, instead, is_first}, Rounds.{Round, Shares, has_share}, History.{Begins, IsBeside, IsTurn, MayBeServed}}
+use Rattle.koth_service.{specs.{Standing.{AreStanding, IsRound, PeersNow, Stands, StandsAt}, declared.{seats.Seat.Seat, times.TheConstants.SHARE}}, proofs.{Moments.{at_both, standing_with}, Due.{idle, not_over}}}
 
 -- ---- truth values and lists
 
@@ -121,7 +121,28 @@ module _ {D A : Type 0} (facts : DeviceFacts D) where
         first = earlier;
       }
 
--- what is known of the peer whose turn it is: what was made of it, of its seat, and of the turn
+-- ---- the share, and where the turns go on
+
+-- whether the submission has its share, by the time at which the command was begun
+pub shared_at : {A : Type 0} (share : Bool) (r : Round) (was : PeersNow A) (clock : ℕ) → IsRound r was → r.before ≡ clock → share ≡ nat_le SHARE (clock - was.shares.stepped_at)
+    → share ≡ has_share r
+shared_at share r was clock round before is =
+    is ∙ ap (λ (c : ℕ). nat_le SHARE (c - was.shares.stepped_at)) (sym before) ∙ ap (λ (s : Shares). nat_le SHARE (r.before - s.stepped_at)) (sym round.shares)
+
+-- where the turns go on
+pub turn_on : {D : Type 0} (n submission : ℕ) (m : Moment D) (was turn : Turn) (first : Bool) → m.round.turn ≡ was → is_first n m ≡ first → turn ≡ turn_after first (n + 1) submission was
+    → turn_after (is_first n m) (n + 1) submission m.round.turn ≡ turn
+turn_on n submission m was turn first same comes is =
+    ap (λ (t : Turn). turn_after (is_first n m) (n + 1) submission t) same ∙ ap (λ (b : Bool). turn_after b (n + 1) submission was) comes ∙ sym is
+
+pub turn_on_same : {D : Type 0} (n : ℕ) (m : Moment D) (was turn : Turn) (first : Bool) → m.round.turn ≡ was → is_first n m ≡ first → turn ≡ turn_after first (n + 1) was.submission was
+    → turn_after (is_first n m) (n + 1) m.round.turn.submission m.round.turn ≡ turn
+turn_on_same n m was turn first same comes is =
+    ap (λ (t : Turn). turn_after (is_first n m) (n + 1) t.submission m.round.turn) same ∙ turn_on n was.submission m was turn first same comes is
+
+-- ---- the peer whose turn it is
+
+-- what is known of it: what was made of it, of its seat, and of the turn
 pub record IsServing {D A : Type 0} (R : Peer A → Peer A → Type 0) (f : Seat → Seat) (share : Bool) (n submission : ℕ) (was : PeersNow A) (new : Slots A) (seats : Seats) (turn : Turn)
     (judge : Judged D) : Type 0 where
   pub one : ServesOne R share n submission was.slots was.turn judge new turn

@@ -2,9 +2,9 @@
 use Rattle.std.proofs.Common.{◌≡◌, ◌∙◌, inl, inr, ◌≤◌, ◌&&◌, ◌||◌, not, ℕ, Bool, true, false, true≢false, ap, List, [], ◌∷◌, ◌++◌, take, drop, Option, None, Some, refl, sym, subst, append_assoc, take-append-drop}
 use Rattle.{sector_disk.specs.Facts.DeviceFacts, hill_store.specs.Seen.Seen, koth_service.specs.{Noted.{Adds, Noted, ReadsBrowser, Stays}, Answering.AnswersBytes}}
 use Rattle.koth_service.specs.{Session.{Browser, browser_anew, browser_came, browser_replied, browser_went}, Moment.{Happening, Moment, Start, instead, moment, noted}, History.{MayReply, Replies, Shows, owed_by}}
-use Rattle.koth_service.specs.{Rounds.{Shares, shares_shown}, Seats.seat_at, Standing.{AreStanding, GoesOn, IsAtStage, IsRound, MayShow, PeersNow, shown_to}}
+use Rattle.koth_service.specs.{Rounds.{Shares, shares_shown}, Seats.seat_at, Standing.{AreStanding, GoesOn, IsAtStage, IsRound, PeersNow, shown_to}}
 use Rattle.koth_session.specs.{Judge.fighting, Peers.peer_at}
-use Rattle.koth_service.specs.{Connections.{ClosesUnless, ComesTo, Connections, IsFree, ShownOn, StaysAt, stage_at, stage_in}, declared.sockets.Came.Came, declared.connections.Connection.Connection}
+use Rattle.koth_service.specs.{Connections.{ClosesUnless, ComesTo, Connections, IsFree, MayShow, ShownOn, StaysAt, stage_at, stage_in}, declared.sockets.Came.Came, declared.connections.Connection.Connection}
 use Rattle.koth_service.specs.declared.connections.Stage.{Stage}
 use Rattle.koth_service.proofs.{Stages.{came_to_be, instead_kept, instead_twice, safe_on, stage_here, stages_over, stages_with}, Steps.stays, Turns.nobody_may}
 use Rattle.koth_service.specs.declared.sockets.Came.TheVariants as came

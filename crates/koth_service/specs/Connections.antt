@@ -1,10 +1,11 @@
 -- Of private contracts alone: connections of browsers by their numbers, and how they go on.
-use Rattle.std.specs.Prelude.{◌≡◌, ⊤, ℕ, ◌<◌, Bool, true, false, List, length, Option, None, Some, Result, Ok, Err}
+use Rattle.std.specs.Prelude.{◌≡◌, ◌⊎◌, ⊤, ℕ, ◌<◌, ◌≤◌, Bool, true, false, List, length, Option, None, Some, Result, Ok, Err}
 use Rattle.std.specs.{Prelude.{Vec, slice_index_or}, declared.alloc.AllocError.AllocError}
 use Rattle.{sector_disk.specs.Facts.DeviceFacts, hill_store.specs.Seen.Seen}
+use Rattle.koth_session.specs.{Judge.fighting, Peers.may_serve_at}
 use Rattle.koth_http.specs.{Asked.IsAsked, Response.{page_response, refusal_response}, declared.refusal.Refusal.Refusal}
 use Rattle.koth_service.specs.{Noted.{Adds, Noted, Stays}, Answering.{AnswersBytes, Site}, Moment.{Start, instead}}
-use Rattle.koth_service.specs.{History.Shows, Standing.{GoesOn, MayShow, PeersNow, peers_of, shown_to}, declared.moves.Moved.Moved}
+use Rattle.koth_service.specs.{History.Shows, Standing.{GoesOn, PeersNow, peers_of, shown_to}, declared.moves.Moved.Moved}
 use Rattle.koth_service.specs.{declared.connections.Browsers.Browsers, declared.connections.Connection.Connection}
 use Rattle.koth_service.specs.{declared.connections.Stage.Stage, declared.desk.Desk.Desk}
 use Rattle.koth_service.specs.declared.connections.Stage.TheVariants as stages
@@ -63,6 +64,13 @@ AnswersOnceKnown site bytes None = IsAsked site.names bytes None
 AnswersOnceKnown site bytes (Some answer) = AnswersBytes site bytes answer.items
 
 -- ---- how connections go on
+
+-- browsers have their share
+abbrev pub MayShow : {A : Type 0} → PeersNow A → Type 0
+MayShow peers =
+    (peers.shares.shown ≡ false)
+    × ((peers.shares.shown_until ≤ peers.clock)
+    ⊎ ((p : ℕ) → may_serve_at (fighting peers.under_way) peers.slots p ≡ false))
 
 -- whether the browser of a connection was answered just now
 abbrev pub is_answered : {A : Type 0} → Moved A → Bool

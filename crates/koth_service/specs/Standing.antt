@@ -4,7 +4,7 @@ use Rattle.std.specs.Prelude.{Option, None, Some, IsSome, Result, IfOk}
 use Rattle.{war_types.specs.declared.settings.RawSettings.RawSettings, sector_disk.specs.Facts.DeviceFacts}
 use Rattle.{hill_store.specs.{Holding.IsHolding, Seen.Seen}, koth_protocol.specs.Commands.Reader}
 use Rattle.koth_session.specs.{Judge.{Fight, fighting}, Peer.IsPeer, Peers.{IsOfOne, OnlyAt, Slots, first_turn}}
-use Rattle.koth_session.specs.Peers.{is_due_in, may_serve_at, peer_at}
+use Rattle.koth_session.specs.Peers.{is_due_in, peer_at}
 use Rattle.koth_session.specs.declared.{end.PeerEnd.PeerEnd, peer.Peer.Peer, peers.Step.Step, turns.Turn.Turn}
 use Rattle.koth_service.specs.{Noted.Noted, Seats.{IsPatienceOver, OnlySeat, Seats, has_some, seat_at}}
 use Rattle.koth_service.specs.{Moment.{Happening, Moment, Start, ended_in, moment, noted}, Rounds.{Round, Shares, shares_anew, shares_at}}
@@ -191,13 +191,6 @@ pub record IsRound {A : Type 0} (round : Round) (peers : PeersNow A) : Type 0 wh
   pub turn : round.turn ≡ peers.turn
   pub fighting : round.fighting ≡ fighting peers.under_way
   pub shares : round.shares ≡ peers.shares
-
--- browsers have their share
-abbrev pub MayShow : {A : Type 0} → PeersNow A → Type 0
-MayShow peers =
-    (peers.shares.shown ≡ false)
-    × ((peers.shares.shown_until ≤ peers.clock)
-    ⊎ ((p : ℕ) → may_serve_at (fighting peers.under_way) peers.slots p ≡ false))
 
 -- the sessions, the connections and the store are as this history left them, and it is true of the sockets
 pub record CameToBe {S D A : Type 0} (happened : S → List Noted → Type 0) (facts : DeviceFacts D) (shows : Shows D)

@@ -5,7 +5,7 @@ ghost use Rattle.std.specs.Prelude.{◌≡◌, ◌≢◌, ℕ, ◌+◌, ◌-◌,
 ghost use Rattle.koth_session.specs.Peers.{first_turn, peer_at};
 ghost use Rattle.koth_service.specs.{Seats.seat_at, Services.{HaveEnded, IsBegun, start_at, start_of}, Told.Grows};
 ghost use Rattle.koth_service.specs.declared.times.TheConstants.{SHARE};
-ghost use Rattle.koth_service.specs.{Rounds.shares_at, Standing.{LeavesFor, MayShow, OthersStay, peers_of, shares_by, shares_of}};
+ghost use Rattle.koth_service.specs.{Connections.MayShow, Rounds.shares_at, Standing.{LeavesFor, OthersStay, peers_of, shares_by, shares_of}};
 
 use crate::host::{Event, Host, HowEnded};
 use crate::limits::Limits;

@@ -9,7 +9,7 @@
 //! - `reply` and `answers`: the lines of the replies, and a command that is carried out on the store and answered;
 //! - `end` and `peer`: one session as a value, and how it ends;
 //! - `judge`: the store, and the submission to it that is under way, which is fought in steps;
-//! - `turns` and `peers`: many of them on one store, and whose turn it is;
+//! - `numbers`, `turns` and `peers`: many of them on one store, and whose turn it is;
 //! - `sessions`: one session over two streams: what is read is put into its peer, and each command is answered before more is read;
 //! - `laws`: what a session is in the life of its device.
 //!
@@ -34,6 +34,7 @@ mod end;
 mod inbox;
 mod judge;
 mod laws;
+mod numbers;
 mod outbox;
 mod peer;
 mod peers;

@@ -1,11 +1,12 @@
 //! Many sessions on one store, each served in turn.
 
-ghost use Rattle.std.specs.Prelude.{◌≡◌, ℕ, ◌≤◌, true, false, length, option_copied, None, Some, IfErr, IfOk};
-ghost use Rattle.koth_session.specs.{Judge.{fighting, without}, Peer.{Closes, Sends, Takes}, Peers.{end_in, is_due_at, is_finished_in, may_come_at, may_come_in, may_serve_in}};
-ghost use Rattle.koth_session.specs.Peers.{first_turn, may_serve_at, peer_at, step_after, unsent_at, unsent_in, Connects, IsOfIn, IsOfOne, IsServed, IsUnanswered, Moves, MovesAt, OnlyAt, ServesNext};
+ghost use Rattle.std.specs.Prelude.{◌≡◌, ℕ, ◌≤◌, true, false, length, None, Some, IfErr, IfOk};
+ghost use Rattle.koth_session.specs.{Judge.{fighting, without}, Peer.{Closes, Sends, Takes}, Peers.{end_in, is_due_at, is_finished_in, may_come_at, may_serve_in}};
+ghost use Rattle.koth_session.specs.Peers.{first_turn, may_serve_at, peer_at, step_after, unsent_at, Connects, IsOfIn, IsOfOne, IsServed, IsUnanswered, Moves, MovesAt, OnlyAt, ServesNext};
 
 use crate::end::PeerEnd;
 use crate::judge::Judge;
+use crate::numbers::{close_at, pass_at, peer_of, take_at};
 use crate::peer::{Peer, Unanswered};
 use crate::turns::{Turn, asks, first_free, may_serve, next_due, next_served};
 use hill_store::Reply;
@@ -238,43 +239,6 @@ impl<A: Allocator> Peers<A> {
         if number < self.slots.len() {
             self.slots[number] = None;
         }
-    }
-}
-
-/// The peer of this number, if there is one.
-fn peer_of<A: Allocator>(slots: &[Option<Peer<A>>], number: usize) -> Option<&Peer<A>>
-    ensures { option_copied result ≡ peer_at slots.entry.now number }
-{
-    if number < slots.len() {
-        slots[number].as_ref()
-    } else {
-        None
-    }
-}
-
-fn take_at<A: Allocator>(slot: &mut Option<Peer<A>>, bytes: &[u8])
-    requires { length bytes.now ≤ may_come_in slot.old }
-    ensures { Moves (λ old new. Takes old bytes.now new) slot.old slot.new }
-{
-    if let Some(peer) = slot {
-        peer.take(bytes);
-    }
-}
-
-fn close_at<A: Allocator>(slot: &mut Option<Peer<A>>)
-    ensures { Moves Closes slot.old slot.new }
-{
-    if let Some(peer) = slot {
-        peer.close();
-    }
-}
-
-fn pass_at<A: Allocator>(slot: &mut Option<Peer<A>>, count: usize)
-    requires { count ≤ length (unsent_in slot.old) }
-    ensures { Moves (λ old new. Sends old count new) slot.old slot.new }
-{
-    if let Some(peer) = slot {
-        peer.pass(count);
     }
 }
 

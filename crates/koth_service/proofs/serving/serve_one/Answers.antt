@@ -1,5 +1,5 @@
 -- The time was told, and a command was carried out, a step of a submission was made, or a source was put off.
-use Rattle.{std.proofs.Common.refl, koth_service.specs.Standing.peers_of, koth_service.proofs.{Servings.{asked, cut_off, nobody, put_off, served, shared_at, stepped}, Steps.ticked_on}}
+use Rattle.{std.proofs.Common.refl, koth_service.specs.Standing.peers_of, koth_service.proofs.{Servings.{asked, cut_off, nobody, put_off, served, stepped}, Steps.ticked_on, Turns.shared_at}}
 use Rattle.koth_service.proofs.serving.serve_one.Goals as goal
 
 pub returns-in-Nobody-step-clause-served : goal.returns-in-Nobody-step-clause-served

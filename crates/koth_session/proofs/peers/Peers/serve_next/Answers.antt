@@ -1,5 +1,5 @@
 -- One peer is served, or a step of its submission is made, or its source is put off, or nobody is served.
-use Rattle.{std.proofs.{Common.{◌≡◌, ◌∙◌, ◌+◌, None, Some, ap, false, get_or, set, subst, sym, true}, lemmas.List.get_or_read}, koth_session.specs.{Judge.fighting, Peers.{IsNext, IsOfIn, IsPutOff, IsServed, IsStepped, asks_at, asks_in, goes_first_at, goes_first_in, is_sought_in, may_serve_in, turn_after}}}
+use Rattle.{std.proofs.{Common.{◌≡◌, ◌∙◌, ◌+◌, None, Some, ap, false, get_or, set, subst, sym, true}, lemmas.List.get_or_read}, koth_session.specs.{Judge.fighting, Peers.{IsNext, IsOfIn, IsPutOff, IsServed, IsStepped, asks_at, asks_in, goes_first_at, is_sought_in, may_serve_in, turn_after}}}
 use Rattle.koth_session.proofs.{FirstDue.sought_first, Fights.{of_in, put_off_of, served_of, stepped_of}, Slots.moves_written, Steps.serves_next}
 use Rattle.koth_session.specs.declared.turns.Turn.{Turn}
 use Rattle.koth_session.proofs.peers.Peers.serve_next.Goals as goal
