@@ -2,7 +2,7 @@
 use Rattle.std.proofs.Common.{ℕ, ◌≤◌, arith, List, [], Option, None, Some, Result, Ok, Err, IfOk}
 use Rattle.{sector_disk.specs.Facts.DeviceFacts, hill_store.specs.Seen.Seen, koth_session.specs.declared.peers.Step.Step}
 use Rattle.koth_service.specs.{Noted.Noted, Moment.{Happening, Start, ended_in, noted}, History.Shows}
-use Rattle.koth_service.specs.Standing.{CameToBe, GoesOn, HaveEnded, IsServed, PeersNow, StandsAfter}
+use Rattle.koth_service.specs.{Services.{HaveEnded, IsServed}, Standing.{CameToBe, GoesOn, PeersNow, StandsAfter}}
 use Rattle.{koth_service.specs.declared.connections.Stage.Stage, koth_service.proofs.Holdings.are_held}
 
 -- as many have ended if more have

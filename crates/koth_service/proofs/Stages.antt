@@ -1,8 +1,8 @@
 -- What one part of a moment makes of the others.
-use Rattle.std.proofs.{Common.{◌≡◌, ◌∙◌, inl, inr, ℕ, ◌≤◌, ◌==◌, Bool, true, false, if◌then◌else◌, length, List, [], Option, None, Some, IsSome, ap, refl, sym, subst}, lemmas.Bool.cases_eq}
+use Rattle.std.proofs.{Common.{◌≡◌, ◌∙◌, inl, inr, ℕ, ◌≤◌, ◌==◌, max, Bool, true, false, if◌then◌else◌, length, List, [], Option, None, Some, IsSome, ap, refl, sym, subst}, lemmas.Bool.cases_eq}
 use Rattle.sector_disk.specs.Facts.{DeviceFacts}
 use Rattle.{hill_store.specs.Seen.Seen, koth_session.specs.{Judge.{Fight, fighting, without}, Peers.IsOfOne}, koth_session.proofs.{Exchanges.served_none, Holding.keeps_list}}
-use Rattle.koth_service.specs.{Noted.Noted, Session.{Browser, Session}, Moment.{Happening, Moment, Round, Start, ended_in, instead, moment, noted, other_than}, History.{IsHistory, IsSafe, Shows}}
+use Rattle.koth_service.specs.{Noted.Noted, Session.{Browser, Session}, Moment.{Happening, Moment, Start, ended_in, instead, moment, noted}, Rounds.{Round, Shares, other_than, shares_at}, History.{IsHistory, IsSafe, Shows}}
 use Rattle.koth_service.specs.{Standing.{AreAtStages, AreStanding, CameToBe, IsAtStage, IsRound, PeersNow}, declared.connections.Stage.Stage}
 use Rattle.koth_service.proofs.Moments.{instead_other, instead_same}
 
@@ -69,6 +69,12 @@ some_under_way (Some fight) is = refl
 pub some_fights : (under_way : Option Fight) → IsSome under_way → IsSome (fighting under_way)
 some_fights None is = is
 some_fights (Some fight) is = refl
+
+-- ---- the shares when the time was told
+
+pub told_shares : (from was time clock : ℕ) (shares now : Shares) → from ≡ was → clock ≡ max was time → shares ≡ now → shares_at from (max from time) shares ≡ shares_at was clock now
+told_shares from was time clock shares now same is are =
+    ap (λ (s : Shares). shares_at from (max from time) s) are ∙ ap (λ (c : ℕ). shares_at c (max c time) now) same ∙ ap (λ (c : ℕ). shares_at was c now) (sym is)
 
 -- ---- no stop loses what was answered before
 

@@ -5,12 +5,12 @@ use Rattle.sector_disk.specs.Facts.{DeviceFacts}
 use Rattle.hill_store.specs.Seen.{Seen}
 use Rattle.koth_session.{specs.{Judge.{Fight, fighting, without}, Peer.{Closes, Sends, Takes}}, proofs.Fights.{closes_still, of_moved, of_new, of_others, sends_still}}
 use Rattle.koth_session.specs.Peers.{Connects, IsOfOne, MovesAt, OnlyAt, Slots, end_in, is_finished_in, may_come_at, may_come_in, peer_at, unsent_at, unsent_in}
-use Rattle.koth_session.specs.declared.peers.NotConnected.{NotConnected}
+use Rattle.koth_session.specs.declared.{peers.NotConnected.NotConnected, turns.Turn.Turn}
 use Rattle.koth_service.specs.{Noted.{Adds, Noted, Stays}, Seats.{OnlySeat, SeatMoves, Seats, seat_at, seat_drained, seat_heard, seat_new, seat_told}, Session.{Session, session_lost}}
-use Rattle.koth_service.specs.{Moment.{Happening, Start, ended_in, moment, noted, other_than}, History.{MayDisconnect, Shows}}
-use Rattle.koth_service.specs.Standing.{AwaitedIn, GoesOn, PeersNow, moved_to, served_to, timed_to}
+use Rattle.koth_service.specs.{Moment.{Happening, Start, ended_in, moment, noted}, Rounds.{Shares, other_than, shares_at}, History.{MayDisconnect, Shows}}
+use Rattle.koth_service.specs.Standing.{AwaitedIn, GoesOn, PeersNow, moved_to, served_to, shares_by, shown_to, timed_to, told_to}
 use Rattle.koth_service.{specs.declared.{connections.Stage.Stage, host.HowEnded.HowEnded, seats.{Draining.Draining, Seat.Seat}}, proofs.{Due.finished_at, Causes.not_silent}}
-use Rattle.koth_service.proofs.Stages.{came_to_be, fighting_without, safe_on}
+use Rattle.koth_service.proofs.Stages.{came_to_be, fighting_without, safe_on, told_shares}
 use Rattle.koth_service.proofs.Moments.{few_from, free_at, instead_same, owed_to, standing_came, standing_closed, standing_drained, standing_left, standing_lost, standing_new, standing_shut}
 use Rattle.koth_service.proofs.Moments.{standing_went, there_at}
 
@@ -56,12 +56,34 @@ module _ {S D A : Type 0} (happened : S → List Noted → Type 0) (facts : Devi
       → GoesOn happened facts shows start old was browsers store → GoesOn happened facts shows start new (timed_to clock was.read_at was) browsers store
   ticked old new was store time clock adds is on =
       let before = on.1 in
-      let round = before.round in (
+      let round = before.round in
+      let m = moment start on.0 in (
         Happening.On (Noted.Clock time) ∷ on.0,
         came_to_be (adds (noted on.0) before.logged) (tt, before.follows) before.standing before.visiting before.now_is before.places before.seats before.ended
-            (record { clock = ap (λ c. max c time) round.clock ∙ sym is; read_at = round.read_at; turn = round.turn; fighting = round.fighting }) before.of_one,
+            (record {
+              clock = ap (λ c. max c time) round.clock ∙ sym is;
+              read_at = round.read_at;
+              turn = round.turn;
+              fighting = round.fighting;
+              shares = told_shares m.round.clock was.clock time clock m.round.shares was.shares round.clock is round.shares;
+            }) before.of_one,
         safe_on on.2,
       )
+
+  -- a command was begun when the time before it was told
+  pub ticked_on : (old new : S) (was : PeersNow A) (store : Seen D) (time clock : ℕ) → Adds happened (Noted.Clock time) old new → clock ≡ max was.clock time → GoesOn happened facts shows start old was browsers store
+      → (on : GoesOn happened facts shows start new (timed_to clock was.read_at was) browsers store) × ((moment start on.0).round.before ≡ was.clock)
+  unfolding ticked
+  ticked_on old new was store time clock adds is on = (ticked old new was store time clock adds is on, on.1.round.clock)
+
+  -- the time was told, and a browser was answered before, or none was
+  pub told_on : (answered : Bool) (old new : S) (was : PeersNow A) (store : Seen D) (time clock : ℕ) (shares : Shares) → Adds happened (Noted.Clock time) old new → clock ≡ max was.clock time
+      → shares ≡ shares_at was.clock clock (shares_by answered was.shares) → GoesOn happened facts shows start old (shown_to answered was) browsers store
+      → GoesOn happened facts shows start new (told_to clock shares was) browsers store
+  told_on false old new was store time clock shares adds is same on =
+      subst (λ (s : Shares). GoesOn happened facts shows start new (told_to clock s was) browsers store) (sym same) (ticked old new was store time clock adds is on)
+  told_on true old new was store time clock shares adds is same on =
+      subst (λ (s : Shares). GoesOn happened facts shows start new (told_to clock s was) browsers store) (sym same) (ticked old new (shown_to true was) store time clock adds is on)
 
   -- it was told at the end of a wait, at which nobody was silent for too long
   pub waited : (old new : S) (was : PeersNow A) (store : Seen D) (time clock : ℕ) → Adds happened (Noted.Waited time) old new → clock ≡ max was.clock time
@@ -75,7 +97,13 @@ module _ {S D A : Type 0} (happened : S → List Noted → Type 0) (facts : Devi
         Happening.On (Noted.Waited time) ∷ on.0,
         came_to_be (adds (noted on.0) before.logged)
             (λ p shut silent. not_silent p was.read_at m (peer_at was.slots p) (seat_at was.seats p) (before.standing p) round.read_at (awaited p) shut silent, before.follows)
-            before.standing before.visiting before.now_is before.places before.seats before.ended (record { clock = told; read_at = told; turn = round.turn; fighting = round.fighting }) before.of_one,
+            before.standing before.visiting before.now_is before.places before.seats before.ended (record {
+              clock = told;
+              read_at = told;
+              turn = round.turn;
+              fighting = round.fighting;
+              shares = told_shares m.round.clock was.clock time clock m.round.shares was.shares round.clock is round.shares;
+            }) before.of_one,
         safe_on on.2,
       )
 
@@ -88,7 +116,7 @@ module _ {S D A : Type 0} (happened : S → List Noted → Type 0) (facts : Devi
         (
           Happening.On Noted.Arrived ∷ on.0,
           came_to_be (adds (noted on.0) before.logged) (tt, before.follows) before.standing before.visiting before.now_is before.places before.seats before.ended
-              (record { clock = round.clock; read_at = round.read_at; turn = round.turn; fighting = round.fighting }) before.of_one,
+              (record { clock = round.clock; read_at = round.read_at; turn = round.turn; fighting = round.fighting; shares = round.shares }) before.of_one,
           safe_on on.2,
         ),
         refl,
@@ -102,16 +130,16 @@ module _ {S D A : Type 0} (happened : S → List Noted → Type 0) (facts : Devi
       let round = before.round in (
         Happening.On Noted.Refused ∷ on.0,
         came_to_be (adds (noted on.0) before.logged) (tt, before.follows) before.standing before.visiting before.now_is before.places before.seats before.ended
-            (record { clock = round.clock; read_at = round.read_at; turn = round.turn; fighting = round.fighting }) before.of_one,
+            (record { clock = round.clock; read_at = round.read_at; turn = round.turn; fighting = round.fighting; shares = round.shares }) before.of_one,
         safe_on on.2,
       )
 
   -- a peer was seated
   pub seated : (old_sockets sockets : S) (was now : PeersNow A) (store : Seen D) (n : ℕ) (address : SocketAddr) → Connects (Ok n) was.slots now.slots → OnlySeat n was.seats now.seats
-      → (n < length was.seats → seat_at now.seats n ≡ Some (seat_new address was.clock)) → now.ended ≡ was.ended → now.turn ≡ was.turn → now.under_way ≡ was.under_way → now.clock ≡ was.clock → now.read_at ≡ was.read_at
+      → (n < length was.seats → seat_at now.seats n ≡ Some (seat_new address was.clock)) → now.ended ≡ was.ended → now.turn ≡ was.turn → now.under_way ≡ was.under_way → now.clock ≡ was.clock → now.read_at ≡ was.read_at → now.shares ≡ was.shares
       → Adds happened (Noted.Seated n) old_sockets sockets
       → GoesOn happened facts shows start old_sockets was browsers store → GoesOn happened facts shows start sockets now browsers store
-  seated old_sockets sockets was now store n address connects only sits ended turn under_way clock read_at adds on =
+  seated old_sockets sockets was now store n address connects only sits ended turn under_way clock read_at shares adds on =
       let before = on.1 in
       let round = before.round in
       let m = moment start on.0 in
@@ -122,7 +150,7 @@ module _ {S D A : Type 0} (happened : S → List Noted → Type 0) (facts : Devi
         came_to_be (adds (noted on.0) before.logged) ((free_at m.sessions n was.slots was.seats connects.2 before.standing, few), before.follows)
             (standing_new m.sessions n m.round.clock connects.4 address was.slots now.slots was.seats now.seats connects.0 only connects.5 at connects.6 before.standing)
             before.visiting before.now_is (connects.0.size ∙ before.places) (only.size ∙ before.seats) (subst (λ (k : ℕ). k ≤ ended_in (noted on.0)) (sym ended) before.ended)
-            (record { clock = round.clock ∙ sym clock; read_at = round.read_at ∙ sym read_at; turn = round.turn ∙ sym turn; fighting = round.fighting ∙ sym (ap fighting under_way) })
+            (record { clock = round.clock ∙ sym clock; read_at = round.read_at ∙ sym read_at; turn = round.turn ∙ sym turn; fighting = round.fighting ∙ sym (ap fighting under_way); shares = round.shares ∙ sym shares })
             (subst (λ (u : Option Fight). IsOfOne store.hill.settings now.slots u) (sym under_way)
             (of_new store.hill.settings n was.slots now.slots was.under_way connects.0 connects.2 before.of_one)),
         safe_on on.2,
@@ -133,17 +161,17 @@ module _ {S D A : Type 0} (happened : S → List Noted → Type 0) (facts : Devi
   not_connected NotConnected.Full old new connects = connects.0
   not_connected NotConnected.Memory old new connects = connects
 
-  pub turned_away : (old_sockets sockets : S) (was : PeersNow A) (new : Slots A) (turn : ℕ) (store : Seen D) (fault : NotConnected)
+  pub turned_away : (old_sockets sockets : S) (was : PeersNow A) (new : Slots A) (turn : Turn) (store : Seen D) (fault : NotConnected)
       → Connects (Err fault) was.slots new → turn ≡ was.turn → Adds happened Noted.Refused old_sockets sockets
       → GoesOn happened facts shows start old_sockets was browsers store → GoesOn happened facts shows start sockets (served_to new was.seats turn was) browsers store
   turned_away old_sockets sockets was new turn store fault connects same adds on =
       let slots = not_connected fault was.slots new connects in
-      subst (λ (t : ℕ). GoesOn happened facts shows start sockets (served_to new was.seats t was) browsers store) (sym same)
+      subst (λ (t : Turn). GoesOn happened facts shows start sockets (served_to new was.seats t was) browsers store) (sym same)
       (subst (λ (l : Slots A). GoesOn happened facts shows start sockets (served_to l was.seats was.turn was) browsers store) (sym slots)
       (refused old_sockets sockets was store adds on))
 
   -- bytes of a peer came
-  pub came : (old_sockets sockets : S) (was : PeersNow A) (new : Slots A) (seats : Seats) (turn : ℕ) (store : Seen D) (n : ℕ) (bytes : List ℕ) → peer_at was.slots n ≢ None
+  pub came : (old_sockets sockets : S) (was : PeersNow A) (new : Slots A) (seats : Seats) (turn : Turn) (store : Seen D) (n : ℕ) (bytes : List ℕ) → peer_at was.slots n ≢ None
       → MovesAt (λ p q. Takes p bytes q) n was.slots new → SeatMoves (seat_heard bytes was.clock) n was.seats seats → turn ≡ was.turn → Adds happened (Noted.Heard n bytes) old_sockets sockets
       → GoesOn happened facts shows start old_sockets was browsers store → GoesOn happened facts shows start sockets (served_to new seats turn was) browsers store
   came old_sockets sockets was new seats turn store n bytes there moves hears same adds on =
@@ -155,13 +183,13 @@ module _ {S D A : Type 0} (happened : S → List Noted → Type 0) (facts : Devi
         came_to_be (adds (noted on.0) before.logged)
             ((there_at m.sessions n was.slots was.seats there before.standing, few_from m.sessions n bytes was.slots new was.seats there moves before.standing), before.follows)
             (standing_came m.sessions n bytes m.round.clock was.slots new was.seats seats moves heard before.standing) before.visiting before.now_is
-            (moves.only.size ∙ before.places) (hears.only.size ∙ before.seats) before.ended (record { clock = round.clock; read_at = round.read_at; turn = round.turn ∙ sym same; fighting = round.fighting })
+            (moves.only.size ∙ before.places) (hears.only.size ∙ before.seats) before.ended (record { clock = round.clock; read_at = round.read_at; turn = round.turn ∙ sym same; fighting = round.fighting; shares = round.shares })
             (of_moved (λ p q. Takes p bytes q) store.hill.settings n was.slots new was.under_way (λ p q takes due. takes.still due) moves before.of_one),
         safe_on on.2,
       )
 
   -- a peer's bytes are at their end
-  pub closed : (old_sockets sockets : S) (was : PeersNow A) (new : Slots A) (turn : ℕ) (store : Seen D) (n : ℕ) → MovesAt Closes n was.slots new → turn ≡ was.turn → Adds happened (Noted.AtEnd n) old_sockets sockets
+  pub closed : (old_sockets sockets : S) (was : PeersNow A) (new : Slots A) (turn : Turn) (store : Seen D) (n : ℕ) → MovesAt Closes n was.slots new → turn ≡ was.turn → Adds happened (Noted.AtEnd n) old_sockets sockets
       → GoesOn happened facts shows start old_sockets was browsers store → GoesOn happened facts shows start sockets (served_to new was.seats turn was) browsers store
   closed old_sockets sockets was new turn store n moves same adds on =
       let before = on.1 in
@@ -169,13 +197,13 @@ module _ {S D A : Type 0} (happened : S → List Noted → Type 0) (facts : Devi
         Happening.On (Noted.AtEnd n) ∷ on.0,
         came_to_be (adds (noted on.0) before.logged) (tt, before.follows)
             (standing_closed (moment start on.0).sessions n was.slots new was.seats moves before.standing)
-            before.visiting before.now_is (moves.only.size ∙ before.places) before.seats before.ended (record { clock = round.clock; read_at = round.read_at; turn = round.turn ∙ sym same; fighting = round.fighting })
+            before.visiting before.now_is (moves.only.size ∙ before.places) before.seats before.ended (record { clock = round.clock; read_at = round.read_at; turn = round.turn ∙ sym same; fighting = round.fighting; shares = round.shares })
             (of_moved Closes store.hill.settings n was.slots new was.under_way closes_still moves before.of_one),
         safe_on on.2,
       )
 
   -- answers went out to a peer
-  pub went : (old_sockets sockets : S) (was : PeersNow A) (new : Slots A) (seats : Seats) (turn : ℕ) (store : Seen D) (n count : ℕ) → MovesAt (λ p q. Sends p count q) n was.slots new
+  pub went : (old_sockets sockets : S) (was : PeersNow A) (new : Slots A) (seats : Seats) (turn : Turn) (store : Seen D) (n count : ℕ) → MovesAt (λ p q. Sends p count q) n was.slots new
       → SeatMoves (seat_told was.clock) n was.seats seats → unsent_at was.slots n ≢ [] → turn ≡ was.turn → Adds happened (Noted.Told n (take count (unsent_at was.slots n))) old_sockets sockets
       → GoesOn happened facts shows start old_sockets was browsers store → GoesOn happened facts shows start sockets (served_to new seats turn was) browsers store
   went old_sockets sockets was new seats turn store n count moves tells some same adds on =
@@ -186,7 +214,7 @@ module _ {S D A : Type 0} (happened : S → List Noted → Type 0) (facts : Devi
         Happening.On (Noted.Told n (take count (unsent_at was.slots n))) ∷ on.0,
         came_to_be (adds (noted on.0) before.logged) (owed_to m.sessions n count was.slots was.seats some before.standing, before.follows)
             (standing_went m.sessions n count m.round.clock was.slots new was.seats seats moves told before.standing) before.visiting before.now_is
-            (moves.only.size ∙ before.places) (tells.only.size ∙ before.seats) before.ended (record { clock = round.clock; read_at = round.read_at; turn = round.turn ∙ sym same; fighting = round.fighting })
+            (moves.only.size ∙ before.places) (tells.only.size ∙ before.seats) before.ended (record { clock = round.clock; read_at = round.read_at; turn = round.turn ∙ sym same; fighting = round.fighting; shares = round.shares })
             (of_moved (λ p q. Sends p count q) store.hill.settings n was.slots new was.under_way (sends_still count) moves before.of_one),
         safe_on on.2,
       )
@@ -202,7 +230,7 @@ module _ {S D A : Type 0} (happened : S → List Noted → Type 0) (facts : Devi
         Happening.On (Noted.Shut n) ∷ on.0,
         came_to_be (adds (noted on.0) before.logged) (finished_at (m.sessions n) (peer_at was.slots n) (seat_at was.seats n) (before.standing n) ended is, before.follows)
             (standing_shut m.sessions n draining was.slots was.seats seats drains before.standing) before.visiting before.now_is
-            before.places (drains.only.size ∙ before.seats) before.ended (record { clock = round.clock; read_at = round.read_at; turn = round.turn; fighting = round.fighting }) before.of_one,
+            before.places (drains.only.size ∙ before.seats) before.ended (record { clock = round.clock; read_at = round.read_at; turn = round.turn; fighting = round.fighting; shares = round.shares }) before.of_one,
         safe_on on.2,
       )
 
@@ -216,7 +244,7 @@ module _ {S D A : Type 0} (happened : S → List Noted → Type 0) (facts : Devi
         on.0,
         came_to_be (same (noted on.0) before.logged) before.follows
             (standing_drained (moment start on.0).sessions n draining was.slots was.seats seats shut_before drains before.standing) before.visiting before.now_is
-            before.places (drains.only.size ∙ before.seats) before.ended (record { clock = round.clock; read_at = round.read_at; turn = round.turn; fighting = round.fighting }) before.of_one,
+            before.places (drains.only.size ∙ before.seats) before.ended (record { clock = round.clock; read_at = round.read_at; turn = round.turn; fighting = round.fighting; shares = round.shares }) before.of_one,
         on.2,
       )
 
@@ -232,7 +260,7 @@ module _ {S D A : Type 0} (happened : S → List Noted → Type 0) (facts : Devi
         (
           Happening.On (Noted.Lost n) ∷ on.0,
           came_to_be (adds (noted on.0) before.logged) (tt, before.follows) (standing_lost m.sessions n was.slots was.seats before.standing) before.visiting before.now_is
-              before.places before.seats before.ended (record { clock = round.clock; read_at = round.read_at; turn = round.turn; fighting = round.fighting }) before.of_one,
+              before.places before.seats before.ended (record { clock = round.clock; read_at = round.read_at; turn = round.turn; fighting = round.fighting; shares = round.shares }) before.of_one,
           safe_on on.2,
         ),
         (
@@ -245,10 +273,10 @@ module _ {S D A : Type 0} (happened : S → List Noted → Type 0) (facts : Devi
   pub left : (old_sockets sockets : S) (was now : PeersNow A) (store same_store : Seen D) (n : ℕ) (how : HowEnded) → OnlyAt n was.slots now.slots
       → peer_at now.slots n ≡ None → OnlySeat n was.seats now.seats → seat_at now.seats n ≡ None → now.ended ≤ was.ended + 1 → now.turn ≡ was.turn
       → now.under_way ≡ without n was.under_way → same_store ≡ store → now.clock ≡ was.clock
-      → now.read_at ≡ was.read_at → Adds happened (Noted.Closed n) old_sockets sockets
+      → now.read_at ≡ was.read_at → now.shares ≡ was.shares → Adds happened (Noted.Closed n) old_sockets sockets
       → (on : GoesOn happened facts shows start old_sockets was browsers store) → MayDisconnect start.most n how (moment start on.0)
       → GoesOn happened facts shows start sockets now browsers same_store
-  left old_sockets sockets was now store same_store n how only free places empty more turn under_way same clock read_at adds on cause =
+  left old_sockets sockets was now store same_store n how only free places empty more turn under_way same clock read_at shares adds on cause =
       let before = on.1 in
       let round = before.round in
       let m = moment start on.0 in
@@ -265,6 +293,7 @@ module _ {S D A : Type 0} (happened : S → List Noted → Type 0) (facts : Devi
               read_at = round.read_at ∙ sym read_at;
               turn = round.turn ∙ sym turn;
               fighting = ap (λ f. other_than n f) round.fighting ∙ sym (ap fighting under_way ∙ fighting_without n was.under_way);
+              shares = round.shares ∙ sym shares;
             })
             (subst (λ (s : Seen D). IsOfOne s.hill.settings now.slots now.under_way) (sym same) others),
         safe_on on.2,

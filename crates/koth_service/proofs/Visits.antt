@@ -1,11 +1,12 @@
 -- How a history goes on by what happens with browsers.
-use Rattle.std.proofs.Common.{◌≡◌, ◌∙◌, ℕ, true, false, ap, List, [], ◌∷◌, ◌++◌, take, drop, Option, None, Some, refl, sym, subst, append_assoc, take-append-drop}
+use Rattle.std.proofs.Common.{◌≡◌, ◌∙◌, inl, inr, ◌≤◌, ◌&&◌, ◌||◌, not, ℕ, Bool, true, false, true≢false, ap, List, [], ◌∷◌, ◌++◌, take, drop, Option, None, Some, refl, sym, subst, append_assoc, take-append-drop}
 use Rattle.{sector_disk.specs.Facts.DeviceFacts, hill_store.specs.Seen.Seen, koth_service.specs.{Noted.{Adds, Noted, ReadsBrowser, Stays}, Answering.AnswersBytes}}
-use Rattle.koth_service.specs.{Session.{Browser, browser_anew, browser_came, browser_replied, browser_went}, Moment.{Happening, Start, instead, moment, noted}, History.{Replies, Shows, owed_by}}
-use Rattle.koth_service.specs.Standing.{GoesOn, IsAtStage, PeersNow}
-use Rattle.koth_service.specs.{Connections.{ClosesUnless, ComesTo, Connections, IsFree, MovesOn, StaysAt, stage_at, stage_in}, declared.sockets.Came.Came, declared.connections.Connection.Connection}
+use Rattle.koth_service.specs.{Session.{Browser, browser_anew, browser_came, browser_replied, browser_went}, Moment.{Happening, Moment, Start, instead, moment, noted}, History.{MayReply, Replies, Shows, owed_by}}
+use Rattle.koth_service.specs.{Rounds.{Shares, shares_shown}, Seats.seat_at, Standing.{AreStanding, GoesOn, IsAtStage, IsRound, PeersNow, shown_to}}
+use Rattle.koth_session.specs.{Judge.fighting, Peers.peer_at}
+use Rattle.koth_service.specs.{Connections.{ClosesUnless, ComesTo, Connections, IsFree, MayShow, ShownOn, StaysAt, stage_at, stage_in}, declared.sockets.Came.Came, declared.connections.Connection.Connection}
 use Rattle.koth_service.specs.declared.connections.Stage.{Stage}
-use Rattle.koth_service.proofs.{Stages.{came_to_be, instead_kept, instead_twice, safe_on, stage_here, stages_over, stages_with}, Steps.stays}
+use Rattle.koth_service.proofs.{Stages.{came_to_be, instead_kept, instead_twice, safe_on, stage_here, stages_over, stages_with}, Steps.stays, Turns.nobody_may}
 use Rattle.koth_service.specs.declared.sockets.Came.TheVariants as came
 
 -- ---- what happens with the connection of one number
@@ -69,11 +70,26 @@ module _ {S D A : Type 0} (happened : S → List Noted → Type 0) (facts : Devi
         safe_on on.2,
       )
 
+  -- browsers have their share
+  may_reply : (m : Moment D) → AreStanding m.sessions peers.slots peers.seats → IsRound m.round peers → MayShow peers → MayReply m
+  may_reply m standing round may = (
+    ap (λ (x : Shares). x.shown) round.shares ∙ may.0,
+    elim may.1 [
+      | inl over ↦ inl (subst (λ (x : Shares). x.shown_until ≤ m.round.clock) (sym round.shares) (subst (λ (c : ℕ). peers.shares.shown_until ≤ c) (sym round.clock) over))
+      | inr idle ↦ inr (λ p may. nobody_may (fighting peers.under_way) m p (peer_at peers.slots p) (seat_at peers.seats p) (standing p) round.fighting (idle p) may)
+    ],
+  )
+
+  -- a browser was answered since the time was told last
+  abbrev IsShown : S → Option (Stage A) → Type 0
+  IsShown sockets stage = GoesOn happened facts shows start sockets (shown_to true peers) (instead browsers n stage) store
+
   -- it was answered
-  pub replied : (sockets : S) (visit reply : List ℕ) → AnswersBytes (shows store) visit reply → Is sockets (Some (Stage.Asking visit))
-      → Is sockets (Some (Stage.Answering reply))
-  replied sockets visit reply answers on =
+  pub replied : (sockets : S) (visit reply : List ℕ) → MayShow peers → AnswersBytes (shows store) visit reply → Is sockets (Some (Stage.Asking visit))
+      → IsShown sockets (Some (Stage.Answering reply))
+  replied sockets visit reply may answers on =
       let before = on.1 in
+      let round = before.round in
       let m = moment start on.0 in
       let b = browser_replied reply (m.browsers n) in
       let here = stage_here m.browsers browsers n (Some (Stage.Asking visit)) before.visiting in
@@ -84,11 +100,13 @@ module _ {S D A : Type 0} (happened : S → List Noted → Type 0) (facts : Devi
         first = ap (λ (x : Browser). x.reply) here;
         sound = on.2.open_now;
         as_asked = subst (λ (l : List ℕ). AnswersBytes (shows m.now) l reply) (sym came) of_store;
+        share = may_reply m before.standing round may;
       } in (
         Happening.Replied n reply ∷ on.0,
         came_to_be before.logged (replies, before.follows) before.standing
             (stages_with m.browsers browsers n b (Some (Stage.Asking visit)) (Some (Stage.Answering reply)) (ap (λ (x : Browser). x.went ++ reply) here) before.visiting)
-            before.now_is before.places before.seats before.ended before.round before.of_one,
+            before.now_is before.places before.seats before.ended
+            (record { clock = round.clock; read_at = round.read_at; turn = round.turn; fighting = round.fighting; shares = ap shares_shown round.shares }) before.of_one,
         safe_on on.2,
       )
 
@@ -128,10 +146,10 @@ module _ {S D A : Type 0} (happened : S → List Noted → Type 0) (facts : Devi
   read_on old new visit bytes more adds is on =
       subst (λ (l : List ℕ). Is new (Some (Stage.Asking l))) (sym is) (requested old new visit bytes adds on)
 
-  pub read_whole : (old new : S) (visit bytes more reply unsent : List ℕ) → Adds happened (Noted.Requested n bytes) old new → more ≡ visit ++ bytes
-      → AnswersBytes (shows store) more reply → unsent ≡ reply → Is old (Some (Stage.Asking visit)) → Is new (Some (Stage.Answering unsent))
-  read_whole old new visit bytes more reply unsent adds is answers same on =
-      subst (λ (l : List ℕ). Is new (Some (Stage.Answering l))) (sym same) (replied new more reply answers (read_on old new visit bytes more adds is on))
+  pub read_whole : (old new : S) (visit bytes more reply unsent : List ℕ) → MayShow peers → Adds happened (Noted.Requested n bytes) old new → more ≡ visit ++ bytes
+      → AnswersBytes (shows store) more reply → unsent ≡ reply → Is old (Some (Stage.Asking visit)) → IsShown new (Some (Stage.Answering unsent))
+  read_whole old new visit bytes more reply unsent may adds is answers same on =
+      subst (λ (l : List ℕ). IsShown new (Some (Stage.Answering l))) (sym same) (replied new more reply may answers (read_on old new visit bytes more adds is on))
 
   pub written_on : (old new : S) (count : ℕ) (unsent bytes rest : List ℕ) → Adds happened (Noted.Shown n (take count bytes)) old new → bytes ≡ unsent
       → rest ≡ drop count unsent → Is old (Some (Stage.Answering unsent)) → Is new (Some (Stage.Answering rest))
@@ -179,14 +197,32 @@ module _ {S D A : Type 0} (happened : S → List Noted → Type 0) (facts : Devi
       (admitted happened facts shows start peers (stage_at old) store n old_sockets then_sockets adds
       (same_stages old_sockets (stage_at old) (instead (stage_at old) n None) (instead_kept (stage_at old) n None free.1) on)))
 
+module _ {S D A : Type 0} (happened : S → List Noted → Type 0) (facts : DeviceFacts D) (shows : Shows D) (start : Start D) (peers : PeersNow A) (store : Seen D) where
   -- a connection was moved on
-  pub moved_on : (old_sockets then_sockets sockets : S) (n : ℕ) (old taken new : Connections A) (stage after : Stage A) (kept : Option (Connection A))
-      → stage_at old n ≡ Some stage → ComesTo n None old taken → MovesOn happened facts shows store n old_sockets (Some stage) then_sockets (Some after)
-      → StaysAt after kept → ClosesUnless happened n kept then_sockets sockets → ComesTo n (stage_in kept) taken new
-      → GoesOn happened facts shows start old_sockets peers (stage_at old) store → GoesOn happened facts shows start sockets peers (stage_at new) store
-  moved_on old_sockets then_sockets sockets n old taken new stage after kept is takes moves keeps closes comes on =
-      same_stages sockets (instead (stage_at old) n (stage_in kept)) (stage_at new)
+  pub moved_on : (may answered : Bool) (old_sockets then_sockets sockets : S) (n : ℕ) (old taken new : Connections A) (stage after : Stage A) (kept : Option (Connection A))
+      → stage_at old n ≡ Some stage → ComesTo n None old taken → ShownOn happened facts shows store may n old_sockets (Some stage) answered then_sockets (Some after)
+      → StaysAt after kept → ClosesUnless happened n kept then_sockets sockets → ComesTo n (stage_in kept) taken new → (may ≡ true → MayShow peers)
+      → GoesOn happened facts shows start old_sockets peers (stage_at old) store → GoesOn happened facts shows start sockets (shown_to answered peers) (stage_at new) store
+  moved_on may answered old_sockets then_sockets sockets n old taken new stage after kept is takes moves keeps closes comes share on =
+      same_stages happened facts shows start (shown_to answered peers) store sockets (instead (stage_at old) n (stage_in kept)) (stage_at new)
       (λ p. comes.stages p ∙ instead_twice (stage_at old) n (stage_at taken) None (stage_in kept) takes.stages p)
-      (settled happened facts shows start peers (stage_at old) store n then_sockets sockets after kept keeps closes
-      (moves start peers (stage_at old)
-      (same_stages old_sockets (stage_at old) (instead (stage_at old) n (Some stage)) (instead_kept (stage_at old) n (Some stage) is) on)))
+      (settled happened facts shows start (shown_to answered peers) (stage_at old) store n then_sockets sockets after kept keeps closes
+      (moves start peers (stage_at old) share
+      (same_stages happened facts shows start peers store old_sockets (stage_at old) (instead (stage_at old) n (Some stage)) (instead_kept (stage_at old) n (Some stage) is) on)))
+
+  -- no browser was answered
+  pub unshown : (answered : Bool) (sockets : S) (browsers : ℕ → Option (Stage A)) → answered ≡ false → GoesOn happened facts shows start sockets peers browsers store
+      → GoesOn happened facts shows start sockets (shown_to answered peers) browsers store
+  unshown answered sockets browsers none on = subst (λ (b : Bool). GoesOn happened facts shows start sockets (shown_to b peers) browsers store) (sym none) on
+
+module _ {A : Type 0} where
+  -- one may be answered only if none was
+  pub may_still : (may was : Bool) (peers : PeersNow A) → (may ≡ true → MayShow peers) → (may && not was) ≡ true → MayShow (shown_to was peers)
+  may_still true false peers may is = may refl
+  may_still true true peers may is = absurd (true≢false (sym is))
+  may_still false was peers may is = absurd (true≢false (sym is))
+
+  pub shown_twice : (was more : Bool) (peers : PeersNow A) → shown_to more (shown_to was peers) ≡ shown_to (was || more) peers
+  shown_twice false more peers = refl
+  shown_twice true false peers = refl
+  shown_twice true true peers = refl

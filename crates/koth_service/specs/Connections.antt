@@ -1,10 +1,11 @@
 -- Of private contracts alone: connections of browsers by their numbers, and how they go on.
-use Rattle.std.specs.Prelude.{◌≡◌, ⊤, ℕ, ◌<◌, Bool, List, length, Option, None, Some, Result, Ok, Err}
+use Rattle.std.specs.Prelude.{◌≡◌, ◌⊎◌, ⊤, ℕ, ◌<◌, ◌≤◌, Bool, true, false, List, length, Option, None, Some, Result, Ok, Err}
 use Rattle.std.specs.{Prelude.{Vec, slice_index_or}, declared.alloc.AllocError.AllocError}
 use Rattle.{sector_disk.specs.Facts.DeviceFacts, hill_store.specs.Seen.Seen}
+use Rattle.koth_session.specs.{Judge.fighting, Peers.may_serve_at}
 use Rattle.koth_http.specs.{Asked.IsAsked, Response.{page_response, refusal_response}, declared.refusal.Refusal.Refusal}
 use Rattle.koth_service.specs.{Noted.{Adds, Noted, Stays}, Answering.{AnswersBytes, Site}, Moment.{Start, instead}}
-use Rattle.koth_service.specs.{History.Shows, Standing.{GoesOn, PeersNow, peers_of}, declared.moves.Moved.Moved}
+use Rattle.koth_service.specs.{History.Shows, Standing.{GoesOn, PeersNow, peers_of, shown_to}, declared.moves.Moved.Moved}
 use Rattle.koth_service.specs.{declared.connections.Browsers.Browsers, declared.connections.Connection.Connection}
 use Rattle.koth_service.specs.{declared.connections.Stage.Stage, declared.desk.Desk.Desk}
 use Rattle.koth_service.specs.declared.connections.Stage.TheVariants as stages
@@ -64,6 +65,21 @@ AnswersOnceKnown site bytes (Some answer) = AnswersBytes site bytes answer.items
 
 -- ---- how connections go on
 
+-- browsers have their share
+abbrev pub MayShow : {A : Type 0} → PeersNow A → Type 0
+MayShow peers =
+    (peers.shares.shown ≡ false)
+    × ((peers.shares.shown_until ≤ peers.clock)
+    ⊎ ((p : ℕ) → may_serve_at (fighting peers.under_way) peers.slots p ≡ false))
+
+-- whether the browser of a connection was answered just now
+abbrev pub is_answered : {A : Type 0} → Moved A → Bool
+is_answered (Moved.Answered visit unsent) = true
+is_answered (Moved.Next stage) = false
+is_answered (Moved.On stage) = false
+is_answered (Moved.Still stage) = false
+is_answered Moved.Over = false
+
 -- the service goes on when the connection of this number comes from one stage to another, however the peers and the
 -- other browsers stand
 abbrev pub MovesOn : {S D A : Type 0} → (S → List Noted → Type 0) → DeviceFacts D → Shows D → Seen D
@@ -80,6 +96,22 @@ BrowsersGoOn {S} {D} {A} happened facts shows store sockets browsers new_sockets
     (start : Start D) (peers : PeersNow A)
     → GoesOn happened facts shows start sockets peers (stage_at browsers.connections.items) store
     → GoesOn happened facts shows start new_sockets peers (stage_at new_browsers.connections.items) store
+
+-- both, where a browser is answered, or isn't: it may be if browsers have their share
+abbrev pub ShownOn : {S D A : Type 0} → (S → List Noted → Type 0) → DeviceFacts D → Shows D → Seen D
+    → Bool → ℕ → S → Option (Stage A) → Bool → S → Option (Stage A) → Type 0
+ShownOn {S} {D} {A} happened facts shows store may n sockets stage answered new_sockets new_stage =
+    (start : Start D) (peers : PeersNow A) (browsers : ℕ → Option (Stage A)) → (may ≡ true → MayShow peers)
+    → GoesOn happened facts shows start sockets peers (instead browsers n stage) store
+    → GoesOn happened facts shows start new_sockets (shown_to answered peers) (instead browsers n new_stage) store
+
+abbrev pub BrowsersShown : {S D A : Type 0} → (S → List Noted → Type 0) → DeviceFacts D → Shows D → Seen D
+    → Bool → S → Browsers A → Bool → S → Browsers A → Type 0
+BrowsersShown {S} {D} {A} happened facts shows store may sockets browsers answered new_sockets new_browsers =
+    (start : Start D) (peers : PeersNow A) → (may ≡ true → MayShow peers)
+    → GoesOn happened facts shows start sockets peers (stage_at browsers.connections.items) store
+    → GoesOn happened facts shows start new_sockets (shown_to answered peers)
+    (stage_at new_browsers.connections.items) store
 
 -- the service goes on as it did, for peers and browsers
 abbrev pub AllGoOn : {S D A : Type 0} → (S → List Noted → Type 0) → DeviceFacts D → Shows D → S → Desk D A

@@ -5,9 +5,9 @@ use Rattle.sector_disk.specs.{Facts.DeviceFacts, Served.IsKept}
 use Rattle.hill_store.specs.{Opened.IsOpened, Seen.{Assembled, MayBeSpent, Seen}}
 use Rattle.koth_protocol.specs.Commands.{Command, Reader, commands_read}
 use Rattle.koth_session.specs.{Sessions.{AreServed, IsLeftOff, KeepsCut, KeepsList}, Transcript.{Exchange, command_in}}
-use Rattle.koth_session.specs.{Peer.IsFull, Peers.ComesBefore, declared.end.PeerEnd.PeerEnd}
+use Rattle.koth_session.specs.{Peer.IsFull, Peers.IsAhead, declared.end.PeerEnd.PeerEnd}
 use Rattle.koth_service.specs.{Answering.{AnswersBytes, Site}, Noted.Noted, Session.Session}
-use Rattle.koth_service.specs.Moment.{Happening, Moment, Start, answered, moment, other_than}
+use Rattle.koth_service.specs.{Moment.{Happening, Moment, Start, answered, is_first, moment}, Rounds.other_than}
 use Rattle.koth_service.specs.declared.{host.HowEnded.HowEnded, times.TheConstants.{PATIENCE, UNSPOKEN, UNUSED}}
 
 abbrev pub Begins : {T : Type 0} → List T → List T → Type 0
@@ -37,13 +37,16 @@ MayBeServed m p =
 
 -- It is this peer's turn to have this command carried out: the command is the next one in what came, and came before
 -- any request of a browser; no command ended its session; if the submission of another is under way, the command was
--- not put off; and of no peer before it, from the one served last on and going round, one may be carried out.
+-- not put off; and of no peer before it one may be carried out. Those come before it that are from the one served last
+-- on and going round. But before all comes the peer of the submission that is under way, if `SHARE` milliseconds had
+-- gone by since its last step when this command was begun; and if none is under way, each whose source was put off,
+-- from the peer of the last submission on and going round. Those leave the turn where it is.
 pub record IsTurn {D : Type 0} (n : ℕ) (command : Command) (m : Moment D) : Type 0 where
   pub in_turn : (reader : Reader)
       → Begins ((m.sessions n).done ++ command ∷ []) (commands_read reader (m.sessions n).came)
   pub goes_on : (m.sessions n).over ≡ None
   pub beside : IsBeside m.round.fighting n (m.sessions n)
-  pub first : (p : ℕ) → ComesBefore m.round.turn p n → ¬ (MayBeServed m p)
+  pub first : (p : ℕ) → IsAhead m.round.turn p (is_first p m) n (is_first n m) → ¬ (MayBeServed m p)
 
 -- ---- commands that are carried out
 
@@ -125,13 +128,21 @@ owed_by (Some reply) = reply
 abbrev pub Shows : Type 0 → Type 1
 Shows D = Seen D → Site
 
--- A browser that is there, and had no answer, is given one: it answers what came from the browser, by what is shown
--- of the store as it is. The store's device has not failed.
+-- Browsers have their share: none was answered since the time was told last, and since the last answer as much time has
+-- gone by as that took, or no command may be carried out: none is due, and no submission is under way.
+abbrev pub MayReply : {D : Type 0} → Moment D → Type 0
+MayReply m =
+    (m.round.shares.shown ≡ false)
+    × ((m.round.shares.shown_until ≤ m.round.clock) ⊎ ((p : ℕ) → ¬ (MayBeServed m p)))
+
+-- A browser that is there, and had no answer, is given one by the share of browsers: it answers what came from the
+-- browser, by what is shown of the store as it is. The store's device has not failed.
 pub record Replies {D : Type 0} (shows : Shows D) (n : ℕ) (reply : List ℕ) (m : Moment D) : Type 0 where
   pub there : (m.browsers n).there ≡ true
   pub first : (m.browsers n).reply ≡ None
   pub sound : m.now.reopen ≡ false
   pub as_asked : AnswersBytes (shows m.now) (m.browsers n).came reply
+  pub share : MayReply m
 
 -- ---- why a peer is disconnected
 

@@ -6,6 +6,8 @@ pub mod Answering
 pub mod Seats
 -- How one peer, and one browser, stands in a service.
 pub mod Session
+-- What all peers of a service share: the time, whose turn it is, and the shares of the submission and of browsers.
+pub mod Rounds
 -- What happens in a service: on the sockets, and the commands and answers to browsers in between. And how it stands
 -- then.
 pub mod Moment
@@ -16,6 +18,8 @@ pub mod History
 pub mod Held
 -- How the sessions of peers, the connections of browsers and the store stand by a history.
 pub mod Standing
+-- How a service begins, how its hill is opened again, and what it has done by its end.
+pub mod Services
 -- Of private contracts alone: a peer that may be disconnected for another.
 pub mod Places
 -- What a host writes of what happens.

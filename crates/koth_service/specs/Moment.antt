@@ -1,13 +1,14 @@
 -- What happens in a service: on the sockets, and the commands and answers to browsers in between. And how it stands
 -- then.
-use Rattle.std.specs.Prelude.{ℕ, ◌+◌, ◌==◌, max, Bool, true, false, if◌then◌else◌, List, []}
-use Rattle.std.specs.Prelude.{◌∷◌, ◌++◌, Option, None, Some}
+use Rattle.std.specs.Prelude.{ℕ, ◌+◌, ◌==◌, Bool, true, false, if◌then◌else◌, List, [], ◌∷◌, ◌++◌}
 use Rattle.{hill_store.specs.Seen.Seen, koth_session.specs.Transcript.{Exchange, answer, command_in}}
-use Rattle.koth_session.specs.declared.end.PeerEnd.{PeerEnd}
+use Rattle.koth_session.specs.{Peers.goes_first, declared.end.PeerEnd.PeerEnd}
 use Rattle.koth_service.specs.{Noted.Noted, Session.{Browser, Session, browser_anew, browser_came}}
 use Rattle.koth_service.specs.Session.{browser_replied, browser_went}
 use Rattle.koth_service.specs.Session.{session_anew, session_answered, session_at_end, session_came, session_lost}
 use Rattle.koth_service.specs.Session.{session_over, session_put_off, session_shut, session_went}
+use Rattle.koth_service.specs.Rounds.{Round, has_share, round_after, round_anew, round_at, round_passed, round_shown}
+use Rattle.koth_service.specs.Rounds.{round_stepped, round_waited, round_waits, round_without}
 use Rattle.koth_service.specs.declared.host.HowEnded.{HowEnded}
 
 -- Something happened on the sockets. A command of a peer was carried out, and this is the store then. A command that
@@ -59,15 +60,6 @@ ended_in (Noted.Left n ∷ older) = ended_in older
 
 -- ---- how it stands then
 
--- The time that was told last, and at the end of the last wait; whether a connection waits for a number; the
--- number from which the turn goes on; and that of the peer whose submission is under way.
-pub record Round : Type 0 where
-  pub clock : ℕ
-  pub read_at : ℕ
-  pub waits : Bool
-  pub turn : ℕ
-  pub fighting : Option ℕ
-
 -- The peers and the browsers by their numbers; the round; the store; and since it was opened last, how it was then
 -- and what was carried out.
 pub record Moment (D : Type 0) : Type 0 where
@@ -87,7 +79,7 @@ abbrev pub beginning : {D : Type 0} → Seen D → Moment D
 beginning start = record {
   sessions = λ p. session_anew false 0;
   browsers = λ p. browser_anew false;
-  round = record { clock = 0; read_at = 0; waits = false; turn = 0; fighting = None };
+  round = round_anew;
   now = start;
   first = start;
   since = [];
@@ -127,64 +119,17 @@ with_round round m = record {
   since = m.since;
 }
 
--- the time was told, or it was told at the end of a wait
-abbrev pub round_at : ℕ → Round → Round
-round_at t r =
-    record { clock = max r.clock t; read_at = r.read_at; waits = r.waits; turn = r.turn; fighting = r.fighting }
-
-abbrev pub round_waited : ℕ → Round → Round
-round_waited t r =
-    record { clock = max r.clock t; read_at = max r.clock t; waits = r.waits; turn = r.turn; fighting = r.fighting }
-
--- a connection waits for a number, or none does
-abbrev pub round_waits : Bool → Round → Round
-round_waits is r = record { clock = r.clock; read_at = r.read_at; waits = is; turn = r.turn; fighting = r.fighting }
-
--- the submission of this peer is not under way
-abbrev pub other_than : ℕ → Option ℕ → Option ℕ
-other_than n None = None
-other_than n (Some k) = if n == k then None else Some k
-
-abbrev pub round_without : ℕ → Round → Round
-round_without n r = record {
-  clock = r.clock;
-  read_at = r.read_at;
-  waits = r.waits;
-  turn = r.turn;
-  fighting = other_than n r.fighting;
-}
-
--- and the turn goes on after this number
-abbrev pub round_after : ℕ → Round → Round
-round_after n r = record {
-  clock = r.clock;
-  read_at = r.read_at;
-  waits = r.waits;
-  turn = n + 1;
-  fighting = other_than n r.fighting;
-}
-
--- or it is under way, and the turn goes on after this number
-abbrev pub round_stepped : ℕ → Round → Round
-round_stepped n r =
-    record { clock = r.clock; read_at = r.read_at; waits = r.waits; turn = n + 1; fighting = Some n }
-
--- or that of another still is, and the turn goes on after this number
-abbrev pub round_passed : ℕ → Round → Round
-round_passed n r = record {
-  clock = r.clock;
-  read_at = r.read_at;
-  waits = r.waits;
-  turn = n + 1;
-  fighting = r.fighting;
-}
+-- a peer comes first then: that of the submission that is under way, by its share, or if none is, one whose source was
+-- put off
+abbrev pub is_first : {D : Type 0} → ℕ → Moment D → Bool
+is_first n m = goes_first (has_share m.round) m.round.fighting n (m.sessions n).waits
 
 -- a command was carried out on the store as it was, and its answer is owed to the peer
 abbrev pub answered : {D : Type 0} → ℕ → Exchange → Seen D → Moment D → Moment D
 answered n e new m = record {
   sessions = instead m.sessions n (session_answered (command_in e) (answer m.now.hill e) m.round.clock (m.sessions n));
   browsers = m.browsers;
-  round = round_after n m.round;
+  round = round_after (is_first n m) n m.round;
   now = new;
   first = m.first;
   since = m.since ++ e ∷ [];
@@ -195,7 +140,7 @@ abbrev pub stopped : {D : Type 0} → ℕ → PeerEnd → Seen D → Moment D �
 stopped n end new m = record {
   sessions = instead m.sessions n (session_over end m.round.clock (m.sessions n));
   browsers = m.browsers;
-  round = round_after n m.round;
+  round = round_after (is_first n m) n m.round;
   now = new;
   first = m.first;
   since = m.since;
@@ -227,14 +172,15 @@ next (Happening.On (Noted.Shown n bytes)) m = with_browser n (browser_went bytes
 next (Happening.On (Noted.Left n)) m = with_browser n (browser_anew false) m
 next (Happening.Answered n e new) m = answered n e new m
 next (Happening.Stopped n end) m = stopped n end m.now m
-next (Happening.Stepped n source) m = with_round (round_stepped n m.round) m
+next (Happening.Stepped n source) m = with_round (round_stepped (is_first n m) n m.round) m
 next (Happening.PutOff n source) m =
-    with_round (round_passed n m.round) (with_session n (session_put_off (m.sessions n)) m)
+    with_round (round_passed (is_first n m) n m.round) (with_session n (session_put_off (m.sessions n)) m)
 next (Happening.CutOff n source new) m = stopped n PeerEnd.StoreFailed new m
 next (Happening.Reopened new) m = reopened new m
 next (Happening.Disconnected n how) m =
     with_round (round_without n m.round) (with_session n (session_anew false m.round.clock) m)
-next (Happening.Replied n reply) m = with_browser n (browser_replied reply (m.browsers n)) m
+next (Happening.Replied n reply) m =
+    with_round (round_shown m.round) (with_browser n (browser_replied reply (m.browsers n)) m)
 
 -- how it stands after a history, the latest first
 abbrev pub moment : {D : Type 0} → Start D → List (Happening D) → Moment D

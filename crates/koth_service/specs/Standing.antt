@@ -1,14 +1,16 @@
 -- How the sessions of peers, the connections of browsers and the store stand by a history.
-use Rattle.std.specs.Prelude.{◌≡◌, ◌⊎◌, ⊤, ℕ, ◌≤◌, true, false, List, [], ◌++◌, length}
+use Rattle.std.specs.Prelude.{◌≡◌, ◌⊎◌, ⊤, ℕ, ◌+◌, ◌≤◌, Bool, true, false, List, [], ◌++◌, length}
 use Rattle.std.specs.Prelude.{Option, None, Some, IsSome, Result, IfOk}
 use Rattle.{war_types.specs.declared.settings.RawSettings.RawSettings, sector_disk.specs.Facts.DeviceFacts}
 use Rattle.{hill_store.specs.{Holding.IsHolding, Seen.Seen}, koth_protocol.specs.Commands.Reader}
-use Rattle.koth_session.specs.{Judge.{Fight, fighting}, Peer.IsPeer, Peers.{IsOfOne, OnlyAt, Slots, is_due_in, peer_at}}
-use Rattle.koth_session.specs.declared.{end.PeerEnd.PeerEnd, peer.Peer.Peer, peers.Step.Step}
+use Rattle.koth_session.specs.{Judge.{Fight, fighting}, Peer.IsPeer, Peers.{IsOfOne, OnlyAt, Slots, first_turn}}
+use Rattle.koth_session.specs.Peers.{is_due_in, peer_at}
+use Rattle.koth_session.specs.declared.{end.PeerEnd.PeerEnd, peer.Peer.Peer, peers.Step.Step, turns.Turn.Turn}
 use Rattle.koth_service.specs.{Noted.Noted, Seats.{IsPatienceOver, OnlySeat, Seats, has_some, seat_at}}
-use Rattle.koth_service.specs.Moment.{Happening, Moment, Round, Start, ended_in, moment, noted}
+use Rattle.koth_service.specs.{Moment.{Happening, Moment, Start, ended_in, moment, noted}, Rounds.{Round, Shares, shares_anew, shares_at}}
+use Rattle.koth_service.specs.Rounds.{shares_shown, shares_stepped}
 use Rattle.koth_service.specs.{History.{IsHistory, IsSafe, MayDisconnect, OpensAgain, Shows, owed_by}, Held.AreHeld}
-use Rattle.koth_service.specs.{Session.{Browser, Session}, declared.{connections.Stage.Stage, desk.Desk.Desk}}
+use Rattle.koth_service.specs.{Session.{Browser, Session}, declared.{connections.Stage.Stage, desk.{Desk.Desk, DeskShares.DeskShares}}}
 use Rattle.koth_service.specs.declared.{host.HowEnded.HowEnded, seats.Seat.Seat}
 
 -- how a command ended a session that ended so: another end comes when all commands were carried out
@@ -59,16 +61,21 @@ IsAtStage b (Some Stage.Parting) = ⊤
 abbrev pub AreAtStages : {A : Type 0} → (ℕ → Browser) → (ℕ → Option (Stage A)) → Type 0
 AreAtStages browsers at = (p : ℕ) → IsAtStage (browsers p) (at p)
 
--- the peers by their numbers with their seats; how many sessions have ended at least; the turn, the submission that
--- is under way, the time, and when bytes were read last
+-- the peers by their numbers with their seats; how many sessions have ended at least; the turns, the submission that
+-- is under way, the time, when bytes were read last, and the shares
 pub record PeersNow (A : Type 0) : Type 0 where
   pub slots : Slots A
   pub seats : Seats
   pub ended : ℕ
-  pub turn : ℕ
+  pub turn : Turn
   pub under_way : Option Fight
   pub clock : ℕ
   pub read_at : ℕ
+  pub shares : Shares
+
+-- no browser was answered since the time was told last
+abbrev pub shares_of : DeskShares → Shares
+shares_of s = record { stepped_at = s.stepped_at; shown = false; shown_until = s.shown_at + s.took }
 
 abbrev pub peers_of : {D A : Type 0} → Desk D A → PeersNow A
 peers_of desk = record {
@@ -79,6 +86,7 @@ peers_of desk = record {
   under_way = desk.judge.under_way;
   clock = desk.clock;
   read_at = desk.read_at;
+  shares = shares_of desk.shares;
 }
 
 -- with other sessions and seats
@@ -91,10 +99,11 @@ moved_to slots seats peers = record {
   under_way = peers.under_way;
   clock = peers.clock;
   read_at = peers.read_at;
+  shares = peers.shares;
 }
 
--- and with the turn after this number
-abbrev pub served_to : {A : Type 0} → Slots A → Seats → ℕ → PeersNow A → PeersNow A
+-- and with these turns
+abbrev pub served_to : {A : Type 0} → Slots A → Seats → Turn → PeersNow A → PeersNow A
 served_to slots seats turn peers = record {
   slots = slots;
   seats = seats;
@@ -103,10 +112,11 @@ served_to slots seats turn peers = record {
   under_way = peers.under_way;
   clock = peers.clock;
   read_at = peers.read_at;
+  shares = peers.shares;
 }
 
 -- and with this submission under way
-abbrev pub fought_to : {A : Type 0} → Slots A → Seats → ℕ → Option Fight → PeersNow A → PeersNow A
+abbrev pub fought_to : {A : Type 0} → Slots A → Seats → Turn → Option Fight → PeersNow A → PeersNow A
 fought_to slots seats turn under_way peers = record {
   slots = slots;
   seats = seats;
@@ -115,9 +125,53 @@ fought_to slots seats turn under_way peers = record {
   under_way = under_way;
   clock = peers.clock;
   read_at = peers.read_at;
+  shares = peers.shares;
 }
 
--- at another time
+-- with a step of it just now
+abbrev pub stepped_to : {A : Type 0} → PeersNow A → PeersNow A
+stepped_to peers = record {
+  slots = peers.slots;
+  seats = peers.seats;
+  ended = peers.ended;
+  turn = peers.turn;
+  under_way = peers.under_way;
+  clock = peers.clock;
+  read_at = peers.read_at;
+  shares = shares_stepped peers.clock peers.shares;
+}
+
+-- with an answer to a browser since the time was told last, or without
+abbrev pub shares_by : Bool → Shares → Shares
+shares_by false s = s
+shares_by true s = shares_shown s
+
+abbrev pub shown_to : {A : Type 0} → Bool → PeersNow A → PeersNow A
+shown_to false peers = peers
+shown_to true peers = record {
+  slots = peers.slots;
+  seats = peers.seats;
+  ended = peers.ended;
+  turn = peers.turn;
+  under_way = peers.under_way;
+  clock = peers.clock;
+  read_at = peers.read_at;
+  shares = shares_shown peers.shares;
+}
+
+-- at another time, with these shares
+abbrev pub told_to : {A : Type 0} → ℕ → Shares → PeersNow A → PeersNow A
+told_to clock shares peers = record {
+  slots = peers.slots;
+  seats = peers.seats;
+  ended = peers.ended;
+  turn = peers.turn;
+  under_way = peers.under_way;
+  clock = clock;
+  read_at = peers.read_at;
+  shares = shares;
+}
+
 abbrev pub timed_to : {A : Type 0} → ℕ → ℕ → PeersNow A → PeersNow A
 timed_to clock read_at peers = record {
   slots = peers.slots;
@@ -127,14 +181,16 @@ timed_to clock read_at peers = record {
   under_way = peers.under_way;
   clock = clock;
   read_at = read_at;
+  shares = shares_at peers.clock clock peers.shares;
 }
 
--- the round has the same times, and the same turn, and the submission of the same peer is under way
+-- the round has the same times, turns and shares, and the submission of the same peer is under way
 pub record IsRound {A : Type 0} (round : Round) (peers : PeersNow A) : Type 0 where
   pub clock : round.clock ≡ peers.clock
   pub read_at : round.read_at ≡ peers.read_at
   pub turn : round.turn ≡ peers.turn
   pub fighting : round.fighting ≡ fighting peers.under_way
+  pub shares : round.shares ≡ peers.shares
 
 -- the sessions, the connections and the store are as this history left them, and it is true of the sockets
 pub record CameToBe {S D A : Type 0} (happened : S → List Noted → Type 0) (facts : DeviceFacts D) (shows : Shows D)
@@ -238,63 +294,3 @@ IsAwaited n desk = AwaitedIn desk.read_at (peer_at desk.peers.slots.items n) (se
 -- nobody was silent for too long
 abbrev pub AreAwaited : {D A : Type 0} → Desk D A → Type 0
 AreAwaited desk = (p : ℕ) → IsAwaited p desk
-
--- ---- the hill opened again, and the end
-
--- the same peers, and the hill of this device opened again
-pub record IsReopened {D A : Type 0} (facts : DeviceFacts D) (old new : Desk D A) : Type 0 where
-  pub peers : old.judge.under_way ≡ None → peers_of new ≡ peers_of old
-  pub open_now : new.judge.store.reopen ≡ false
-  pub again : OpensAgain facts old.judge.store.device new.judge.store
-
--- the same sessions, on the same store, or on one that was opened again if the device failed in this step
-abbrev pub IsSoundAfter : {D A : Type 0} → DeviceFacts D → Step → Desk D A → Desk D A → Type 0
-IsSoundAfter facts Step.Nobody old new = new ≡ old
-IsSoundAfter facts (Step.Served n) old new = new ≡ old
-IsSoundAfter facts (Step.Stepped n) old new = new ≡ old
-IsSoundAfter facts (Step.PutOff n) old new = new ≡ old
-IsSoundAfter facts (Step.Asked n) old new = new ≡ old
-IsSoundAfter facts (Step.StoreFailed n) old new = IsReopened facts old new
-
--- as many sessions have ended as were asked for
-abbrev pub HaveEnded : Option ℕ → ℕ → Type 0
-HaveEnded None ended = ⊥
-HaveEnded (Some connections) ended = connections ≤ ended
-
--- What happened on the sockets, the commands that were carried out and the answers to browsers are a history of this
--- start. If its store held what some sources earn, the device held at each moment what they and the submissions
--- answered by then earn. An end without a fault comes once as many sessions have ended as were asked for.
-pub record IsServed {S D T F : Type 0} (happened : S → List Noted → Type 0) (facts : DeviceFacts D)
-    (shows : Shows D) (start : Start D) (connections : Option ℕ) (result : Result T F) (sockets : S)
-    (history : List (Happening D)) : Type 0 where
-  pub logged : happened sockets (noted history)
-  pub follows : IsHistory facts shows start history
-  pub held : (s : RawSettings) (before : List (List ℕ)) → IsHolding facts s before start.store
-      → AreHeld facts s before start history
-  pub done : IfOk result (λ nothing. HaveEnded connections (ended_in (noted history)))
-
--- if nothing had happened on the sockets before
-abbrev pub ServesPeers : {S D T F : Type 0} → (S → List Noted → Type 0) → DeviceFacts D → Shows D → Start D
-    → Option ℕ → Result T F → S → S → Type 0
-ServesPeers {S} {D} happened facts shows start connections result old new =
-    happened old []
-    → (history : List (Happening D)) × IsServed happened facts shows start connections result new history
-
--- how a service begins on this store, with room for this many peers, and on that of a desk
-abbrev pub start_of : {D : Type 0} → Seen D → ℕ → Start D
-start_of store most = record { store = store; most = most }
-
-abbrev pub start_at : {D A : Type 0} → Desk D A → Start D
-start_at desk = start_of desk.judge.store (length desk.peers.slots.items)
-
--- nobody is at the desk yet, and its store takes submissions
-pub record IsBegun {D A : Type 0} (desk : Desk D A) : Type 0 where
-  pub nobody : (p : ℕ) → peer_at desk.peers.slots.items p ≡ None
-  pub no_seats : (p : ℕ) → seat_at desk.seats.seats.items p ≡ None
-  pub places : length desk.seats.seats.items ≡ length desk.peers.slots.items
-  pub ended : desk.sessions.ended ≡ 0
-  pub turn : desk.peers.next ≡ 0
-  pub under_way : desk.judge.under_way ≡ None
-  pub clock : desk.clock ≡ 0
-  pub read_at : desk.read_at ≡ 0
-  pub sound : desk.judge.store.reopen ≡ false

@@ -2,9 +2,10 @@
 //! Each function says so of the connections that it moves, however the peers and the other browsers stand.
 #![tactic(auto, using(crate::proofs::Told::stays))]
 
-ghost use Rattle.{std.specs.Prelude.[], hill_store.specs.Seen.Seen};
+ghost use Rattle.{std.specs.Prelude.{[], ◌≡◌, ◌&&◌, not}, hill_store.specs.Seen.Seen};
 ghost use Rattle.koth_service.specs.Connections.{
   BrowsersGoOn,
+  BrowsersShown,
   ClosesUnless,
   ComesTo,
   IsFree,
@@ -33,10 +34,31 @@ pub(crate) struct BrowsersRound {
     pub(crate) moved: bool,
     /// Whether an accept failed: then it is tried again.
     pub(crate) retries: bool,
+    /// Whether a request was answered.
+    pub(crate) has_answered: bool,
 }
 
-/// Takes a connection of a browser that waits, and moves each connection on. One request is answered at most: the others wait for their
-/// turn, since a page takes time in which no peer is served. The host reports that request.
+/// When connections are moved on, in milliseconds, and whether a request may be answered.
+#[derive(Clone, Copy)]
+pub(crate) struct Pass {
+    pub(crate) now: u64,
+    pub(crate) may_answer: bool,
+}
+
+impl Pass {
+    /// The same, but none may be answered if one was.
+    fn after(self, has_answered: bool) -> Pass
+        ensures { result.may_answer ≡ (self.may_answer && not has_answered) }
+    {
+        Pass {
+            may_answer: self.may_answer && !has_answered,
+            ..self
+        }
+    }
+}
+
+/// Takes a connection of a browser that waits, and moves each connection on. One request is answered at most, if one may be: the others wait for
+/// their turn, since a page takes time in which no peer is served. The host reports that request.
 pub(crate) fn serve_browsers<
     S: Sockets,
     D: Device,
@@ -49,24 +71,24 @@ pub(crate) fn serve_browsers<
     store: &Store<D, A>,
     host: &H,
     errors: &mut E,
-    now: u64,
+    pass: Pass,
 ) -> BrowsersRound
-    ensures served { BrowsersGoOn S.happened D.facts (H.shows host.now) store.now sockets.old browsers.old sockets.new browsers.new }
+    ensures served { BrowsersShown S.happened D.facts (H.shows host.now) store.now pass.may_answer sockets.old browsers.old result.has_answered sockets.new browsers.new }
     ensures told { Grows (E.contents errors.old) (E.contents errors.new) }
 {
-    let mut round = admit::<S, D, A, H>(browsers, sockets, now);
-    let mut has_answered = false;
+    let admitted = admit::<S, D, A, H>(browsers, sockets, pass.now);
+    let mut round = BrowsersRound {
+        has_answered: false,
+        ..admitted
+    };
     for place in 0..browsers.len() {
         let number = browsers.number(place);
-        let asks = browsers.is_asking(number);
-        if asks && has_answered {
-            continue;
-        }
-        let has_moved = move_on(browsers, sockets, store, host, errors, number, now);
-        round.moved |= has_moved;
-        has_answered |= asks && !browsers.is_asking(number);
+        let next = pass.after(round.has_answered);
+        let moved = move_on(browsers, sockets, store, host, errors, number, next);
+        round.moved |= moved.moved;
+        round.has_answered |= moved.has_answered;
     }
-    if has_answered {
+    if round.has_answered {
         browsers.pass_turn();
     }
     round
@@ -83,6 +105,7 @@ fn admit<S: Sockets, D: Device, A: Allocator + Copy, H: Host<D, A>>(
     let still = BrowsersRound {
         moved: false,
         retries: false,
+        has_answered: false,
     };
     let Some(number) = browsers.free() else {
         return still;
@@ -135,7 +158,7 @@ fn settle<S: Sockets, A: Allocator>(
     }
 }
 
-/// Moves the connection of this number on, if there is one, and returns whether anything came or went.
+/// Moves the connection of this number on, if there is one, and returns whether anything came or went, and whether its request was answered.
 fn move_on<S: Sockets, D: Device, A: Allocator + Copy, H: Host<D, A>, E: LogWrite>(
     browsers: &mut Browsers<A>,
     sockets: &mut S,
@@ -143,26 +166,43 @@ fn move_on<S: Sockets, D: Device, A: Allocator + Copy, H: Host<D, A>, E: LogWrit
     host: &H,
     errors: &mut E,
     number: usize,
-    now: u64,
-) -> bool
-    ensures served { BrowsersGoOn S.happened D.facts (H.shows host.now) store.now sockets.old browsers.old sockets.new browsers.new }
+    pass: Pass,
+) -> BrowsersRound
+    ensures served { BrowsersShown S.happened D.facts (H.shows host.now) store.now pass.may_answer sockets.old browsers.old result.has_answered sockets.new browsers.new }
     ensures told { Grows (E.contents errors.old) (E.contents errors.new) }
 {
     let Some(connection) = browsers.take(number) else {
-        return false;
+        return BrowsersRound {
+            moved: false,
+            retries: false,
+            has_answered: false,
+        };
     };
     let Connection {
         address,
         stage,
         since,
     } = connection;
-    let moved = after_stage(browsers.alloc, sockets, store, host, number, stage);
+    let moved = after_stage(
+        browsers.alloc,
+        sockets,
+        store,
+        host,
+        number,
+        stage,
+        pass.may_answer,
+    );
     tell_request::<D, A, H, E>(&moved, address, host, errors);
     let is_still = matches!(moved, Moved::Still(_));
-    let kept = kept_after(moved, address, since, now);
+    let has_answered = moved.is_answered();
+    let kept = kept_after(moved, address, since, pass.now);
     let is_kept = kept.is_some();
     settle(browsers, sockets, number, kept);
-    !(is_still && is_kept)
+    BrowsersRound {
+        moved: !(is_still && is_kept),
+        retries: false,
+        has_answered,
+    }
 }
 
 /// Has the host report the request that was answered in this move, if one was.

@@ -79,14 +79,6 @@ impl<A: Allocator> Browsers<A> {
         self.turn = self.number(1);
     }
 
-    /// Whether the request of this number is still to come, or to be answered.
-    pub(crate) fn is_asking(&self, number: usize) -> bool {
-        match self.connections.get(number) {
-            Some(Some(connection)) => matches!(connection.stage, Stage::Asking(_)),
-            _ => false,
-        }
-    }
-
     /// Takes a connection away from its number.
     pub(crate) fn take(&mut self, number: usize) -> Option<Connection<A>>
         ensures taken { stage_in result ≡ stage_at self.old.connections.items number }

@@ -1,15 +1,18 @@
 //! The peers, the judge with its store, and the seats together, and how a peer is disconnected.
 #![tactic(auto, using(crate::proofs::Told::stays))]
 
-ghost use Rattle.std.specs.Prelude.{◌≡◌, ◌≢◌, ℕ, ◌+◌, ◌≤◌, length, true, false, None, IfOk};
-ghost use Rattle.koth_session.specs.Peers.{peer_at};
-ghost use Rattle.koth_service.specs.{Seats.seat_at, Standing.{HaveEnded, IsBegun, LeavesFor, OthersStay, start_at, start_of}, Told.Grows};
+ghost use Rattle.std.specs.Prelude.{◌≡◌, ◌≢◌, ℕ, ◌+◌, ◌-◌, ◌≤◌, nat_le, length, true, false, None, IfOk};
+ghost use Rattle.koth_session.specs.Peers.{first_turn, peer_at};
+ghost use Rattle.koth_service.specs.{Seats.seat_at, Services.{HaveEnded, IsBegun, start_at, start_of}, Told.Grows};
+ghost use Rattle.koth_service.specs.declared.times.TheConstants.{SHARE};
+ghost use Rattle.koth_service.specs.{Connections.MayShow, Rounds.shares_at, Standing.{LeavesFor, OthersStay, peers_of, shares_by, shares_of}};
 
 use crate::host::{Event, Host, HowEnded};
 use crate::limits::Limits;
 use crate::log::LogWrite;
 use crate::seats::Seats;
 use crate::sockets::Sockets;
+use crate::times::SHARE;
 use hill_store::Store;
 use koth_session::{Judge, Peers};
 use sector_disk::Device;
@@ -31,6 +34,37 @@ pub(crate) struct Desk<D: Device, A: Allocator + Copy> {
     pub(crate) clock: u64,
     /// When the bytes that had come from the peers were read last, in milliseconds.
     pub(crate) read_at: u64,
+    pub(crate) shares: DeskShares,
+}
+
+/// The shares of the submission that is under way, and of browsers, in milliseconds.
+#[derive(Clone, Copy, Drop)]
+pub(crate) struct DeskShares {
+    /// When a submission was begun or fought on last.
+    pub(crate) stepped_at: u64,
+    /// When a browser was answered last.
+    shown_at: u64,
+    /// How long that took.
+    took: u64,
+}
+
+impl DeskShares {
+    /// Whether the submission that is under way has its share now.
+    pub(crate) fn has_share(self, now: u64) -> bool
+        ensures { result ≡ nat_le SHARE (now - self.stepped_at) }
+    {
+        now.saturating_sub(self.stepped_at) >= SHARE
+    }
+
+    /// The time is told again, and was `before` until now. Since then a browser was answered or not.
+    pub(crate) fn tell(&mut self, has_answered: bool, before: u64, now: u64)
+        ensures { shares_of self.new ≡ shares_at before now (shares_by has_answered (shares_of self.old)) }
+    {
+        if has_answered {
+            self.shown_at = now;
+            self.took = now.saturating_sub(before);
+        }
+    }
 }
 
 /// How many sessions there were.
@@ -70,6 +104,17 @@ impl<D: Device, A: Allocator + Copy> Desk<D, A> {
         }
     }
 
+    /// Whether a browser may be answered now: as much time has gone by as the last answer took, or no command may be carried out.
+    pub(crate) fn may_show(&self) -> bool
+        ensures { result ≡ true → MayShow (peers_of self.now) }
+    {
+        let passed = self.clock.saturating_sub(self.shares.shown_at);
+        if self.clock >= self.shares.shown_at && passed >= self.shares.took {
+            return true;
+        }
+        self.peers.is_idle(&self.judge)
+    }
+
     /// These peers, none of whom is there yet, with a seat for each.
     fn seated(
         alloc: A,
@@ -81,7 +126,7 @@ impl<D: Device, A: Allocator + Copy> Desk<D, A> {
         D: Drop,
         requires nobody { (p : ℕ) → peer_at peers.slots.items p ≡ None }
         requires most { length peers.slots.items ≡ limits.peers }
-        requires next { peers.next ≡ 0 }
+        requires next { peers.next ≡ first_turn }
         requires sound { store.reopen ≡ false }
         ensures begun { IfOk result IsBegun }
         ensures start { IfOk result (λ desk. start_at desk ≡ start_of store (length peers.slots.items)) }
@@ -98,6 +143,11 @@ impl<D: Device, A: Allocator + Copy> Desk<D, A> {
                 retries: false,
                 clock: 0,
                 read_at: 0,
+                shares: DeskShares {
+                    stepped_at: 0,
+                    shown_at: 0,
+                    took: 0,
+                },
             }),
             Err(error) => Err(error),
         }

@@ -15,8 +15,9 @@
 //!
 //! The main clause: whatever the sockets say, there is a history (`IsHistory`) of what happened on them, of the commands that were carried
 //! out in between, and of the answers to browsers. In it each peer's commands are carried out in the order in which they came, and none that
-//! came after a browser's request, and no peer before it has one that may be carried out (`IsTurn`); each is answered on the hill that stood
-//! then. A source that is refused waits for no submission of another peer: only one that gives a warrior is put off (`PutsOff`). What goes out
+//! came after a browser's request, and no peer before it has one that may be carried out (`IsTurn`): before all comes the submission that is
+//! under way, by its share, and a source that was put off, once none is. Browsers have their share, too (`MayReply`). Each is answered on the
+//! hill that stood then. A source that is refused waits for no submission of another peer: only one that gives a warrior is put off (`PutsOff`). What goes out
 //! to a peer is the next of what it was answered. A peer is disconnected for a cause that the history has (`IsCause`), and has all its answers
 //! before, unless they had no room, it was silent, it asked for a page, its place was given to another, or it is gone.
 //! The hill is opened again only after the device failed in a submission, from that device, and nothing more of that peer is carried out. At
@@ -55,4 +56,4 @@ pub use limits::Limits;
 pub use log::LogWrite;
 pub use service::{ServiceFault, serve_peers};
 pub use sockets::{Arrival, Came, Drained, Sockets, Went};
-pub use times::{ANSWERING, ASKING, DRAIN, DRAINED_MOST, PATIENCE, RETRY, UNSPOKEN, UNUSED};
+pub use times::{ANSWERING, ASKING, DRAIN, DRAINED_MOST, PATIENCE, RETRY, SHARE, UNSPOKEN, UNUSED};

@@ -1,7 +1,7 @@
 //! How one connection of a browser moves on: what comes of its request, and how its answer goes out.
 #![tactic(auto, using(crate::proofs::Told::stays))]
 
-ghost use Rattle.{std.specs.Prelude.Some, hill_store.specs.Seen.Seen, koth_service.specs.Connections.{MovesOn, stage_after}};
+ghost use Rattle.{std.specs.Prelude.{◌≡◌, Some, false, true}, hill_store.specs.Seen.Seen, koth_service.specs.Connections.{MovesOn, ShownOn, is_answered, stage_after}};
 ghost use Rattle.koth_service.specs.declared.connections.Stage.TheVariants as stages;
 
 use crate::answering::answer_visit;
@@ -30,7 +30,16 @@ pub(crate) enum Moved<A: Allocator> {
     Over,
 }
 
-/// What becomes of a connection at this stage.
+impl<A: Allocator> Moved<A> {
+    /// Whether the browser was answered.
+    pub(crate) fn is_answered(&self) -> bool
+        ensures { result ≡ is_answered self.now }
+    {
+        matches!(self, Moved::Answered(_, _))
+    }
+}
+
+/// What becomes of a connection at this stage. While none may be answered, what comes of a request is not read.
 pub(crate) fn after_stage<S: Sockets, D: Device, A: Allocator + Copy, H: Host<D, A>>(
     alloc: A,
     sockets: &mut S,
@@ -38,11 +47,18 @@ pub(crate) fn after_stage<S: Sockets, D: Device, A: Allocator + Copy, H: Host<D,
     host: &H,
     number: usize,
     stage: Stage<A>,
+    may_answer: bool,
 ) -> Moved<A>
-    ensures { MovesOn S.happened D.facts (H.shows host.now) store.now number sockets.old (Some stage) sockets.new (Some (stage_after result)) }
+    ensures { ShownOn S.happened D.facts (H.shows host.now) store.now may_answer number sockets.old (Some stage) (is_answered result) sockets.new (Some (stage_after result)) }
 {
     match stage {
-        Stage::Asking(visit) => read(alloc, sockets, store, host, number, visit),
+        Stage::Asking(visit) => {
+            if may_answer {
+                read(alloc, sockets, store, host, number, visit)
+            } else {
+                Moved::Still(Stage::Asking(visit))
+            }
+        }
         Stage::Answering(unsent) => write::<S, D, A, H>(sockets, number, unsent),
         Stage::Parting => drain::<S, D, A, H>(sockets, number),
     }
@@ -57,7 +73,7 @@ fn read<S: Sockets, D: Device, A: Allocator + Copy, H: Host<D, A>>(
     number: usize,
     visit: Visit<A>,
 ) -> Moved<A>
-    ensures { MovesOn S.happened D.facts (H.shows host.now) store.now number sockets.old (Some (stages.Asking visit)) sockets.new (Some (stage_after result)) }
+    ensures { ShownOn S.happened D.facts (H.shows host.now) store.now true number sockets.old (Some (stages.Asking visit)) (is_answered result) sockets.new (Some (stage_after result)) }
 {
     let mut visit = visit;
     let mut chunk = [0; CHUNK];
@@ -82,7 +98,8 @@ fn write<S: Sockets, D: Device, A: Allocator, H: Host<D, A>>(
     number: usize,
     unsent: Unsent<A>,
 ) -> Moved<A>
-    ensures { (store : Seen D) (host : H) → MovesOn S.happened D.facts (H.shows host) store number sockets.old (Some (stages.Answering unsent)) sockets.new (Some (stage_after result)) }
+    ensures quiet { is_answered result ≡ false }
+    ensures moves { (store : Seen D) (host : H) → MovesOn S.happened D.facts (H.shows host) store number sockets.old (Some (stages.Answering unsent)) sockets.new (Some (stage_after result)) }
 {
     let mut unsent = unsent;
     let bytes = unsent.as_slice();
@@ -105,7 +122,8 @@ fn drain<S: Sockets, D: Device, A: Allocator, H: Host<D, A>>(
     sockets: &mut S,
     number: usize,
 ) -> Moved<A>
-    ensures { (store : Seen D) (host : H) → MovesOn S.happened D.facts (H.shows host) store number sockets.old (Some stages.Parting) sockets.new (Some (stage_after result)) }
+    ensures quiet { is_answered result ≡ false }
+    ensures moves { (store : Seen D) (host : H) → MovesOn S.happened D.facts (H.shows host) store number sockets.old (Some stages.Parting) sockets.new (Some (stage_after result)) }
 {
     let mut chunk = [0; CHUNK];
     match sockets.read_browser(number, &mut chunk) {

@@ -2,10 +2,10 @@
 #![tactic(auto, using(crate::proofs::Told::stays))]
 
 ghost use Rattle.std.specs.Prelude.{◌≡◌, ℕ, None, false, IfOk};
-ghost use Rattle.koth_service.specs.{Connections.{stage_at, AllGoOn}, Standing.{AreAwaited, IsBegun, IsReopened, IsSoundAfter, KeepsOn, KeepsOnBy, ServesPeers, start_at, start_of}, Told.Grows};
+ghost use Rattle.koth_service.specs.{Connections.{stage_at, AllGoOn}, Services.{IsBegun, IsReopened, IsSoundAfter, IsWithoutFault, ServesPeers, start_at, start_of}, Standing.{AreAwaited, KeepsOn, KeepsOnBy}, Told.Grows};
 
 use crate::arrivals::take_arrivals;
-use crate::browsers::serve_browsers;
+use crate::browsers::{Pass, serve_browsers};
 use crate::connections::Browsers;
 use crate::desk::{Desk, are_enough};
 use crate::host::Host;
@@ -22,7 +22,8 @@ use koth_session::{Judge, Step};
 use sector_disk::Device;
 use std::alloc::{AllocError, Allocator};
 
-/// Steps of a submission that are made in one round at most: those of one to a full hill, if each match is a step.
+/// Commands that are carried out, and steps of a submission that are made, in one round at most: the steps of one to a full hill, if each match
+/// is a step.
 const STEPS: u32 = 22;
 
 /// Why a service ended early.
@@ -114,7 +115,7 @@ fn serve_rounds<S: Sockets, D: Device + Drop, A: Allocator + Copy, H: Host<D, A>
     Err(ServiceFault::Rounds)
 }
 
-/// Sends answers, disconnects peers, and serves browsers.
+/// Sends answers, disconnects peers, and serves browsers by their share. The time is told after that: then it says how long it took.
 fn give_out<S: Sockets, D: Device, A: Allocator + Copy, H: Host<D, A>, E: LogWrite>(
     desk: &mut Desk<D, A>,
     browsers: &mut Browsers<A>,
@@ -129,15 +130,21 @@ fn give_out<S: Sockets, D: Device, A: Allocator + Copy, H: Host<D, A>, E: LogWri
     desk.clock = desk.clock.max(sockets.now());
     send_all(desk, sockets, host, errors);
     part_all(desk, sockets, host, errors);
-    let now = desk.clock;
-    let round = serve_browsers(browsers, sockets, desk.judge.store(), host, errors, now);
+    let may_answer = desk.may_show();
+    let pass = Pass {
+        now: desk.clock,
+        may_answer,
+    };
+    let round = serve_browsers(browsers, sockets, desk.judge.store(), host, errors, pass);
+    desk.clock = desk.clock.max(sockets.now());
+    desk.shares.tell(round.has_answered, pass.now, desk.clock);
     desk.is_busy |= round.moved;
     desk.retries |= round.retries;
 }
 
-/// Waits for peers, takes what comes from them, and carries out one command at most, or a step of a submission, and
-/// further steps as long as the clock tells the time at which bytes were read: so short ones are made together. What
-/// came is read before a place is given to another peer: else one would lose it whose bytes wait.
+/// Waits for peers, takes what comes from them, and carries out a command or a step of a submission, and further ones as long as the clock tells
+/// the time at which bytes were read: so short ones are made together. What came is read before a place is given to another peer: else one would
+/// lose it whose bytes wait.
 fn take_in<S: Sockets, D: Device, A: Allocator + Copy, H: Host<D, A>, E: LogWrite>(
     desk: &mut Desk<D, A>,
     browsers: &Browsers<A>,
@@ -154,15 +161,24 @@ fn take_in<S: Sockets, D: Device, A: Allocator + Copy, H: Host<D, A>, E: LogWrit
     take_arrivals(desk, sockets, host, errors);
     for _turn in 0..STEPS {
         let step = serve_one(desk, sockets, host, errors);
-        match step {
-            Step::Stepped(_) => {}
-            _ => return step,
+        if ends_round(step) {
+            return step;
         }
         if desk.clock > desk.read_at {
             return step;
         }
     }
     Step::Nobody
+}
+
+/// Whether a round ends with this step: nobody is served in it, a peer is disconnected, or the device failed.
+fn ends_round(step: Step) -> bool
+    ensures { result ≡ false → IsWithoutFault step }
+{
+    match step {
+        Step::Served(_) | Step::Stepped(_) | Step::PutOff(_) => false,
+        Step::Nobody | Step::Asked(_) | Step::StoreFailed(_) => true,
+    }
 }
 
 /// Waits until something comes or may go, but not after a round in which it did. It waits no longer than a peer may be silent or a browser is

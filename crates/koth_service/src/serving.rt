@@ -12,7 +12,8 @@ use sector_disk::Device;
 use std::alloc::Allocator;
 
 /// Carries out one command at most, makes a step of a submission, or puts a source off, and has the host report what a submission was answered.
-/// A peer that sent a request in place of a command is disconnected.
+/// If the last step of the submission that is under way is `SHARE` milliseconds ago, the next one is made, whoever has the turn. A peer that sent
+/// a request in place of a command is disconnected.
 pub(crate) fn serve_one<S: Sockets, D: Device, A: Allocator + Copy, H: Host<D, A>, E: LogWrite>(
     desk: &mut Desk<D, A>,
     sockets: &mut S,
@@ -22,12 +23,13 @@ pub(crate) fn serve_one<S: Sockets, D: Device, A: Allocator + Copy, H: Host<D, A
     ensures served { KeepsOnBy S.happened D.facts (H.shows host.now) result sockets.old desk.old sockets.new desk.new }
     ensures told { Grows (E.contents errors.old) (E.contents errors.new) }
 {
-    let step = desk.peers.serve_next(host.steps(), &mut desk.judge);
+    let share = desk.shares.has_share(desk.clock);
+    let step = desk.peers.serve_next(share, host.steps(), &mut desk.judge);
     desk.clock = desk.clock.max(sockets.now());
     desk.is_busy |= !matches!(step, Step::Nobody);
     match step {
         Step::Nobody => {}
-        Step::Stepped(_) => {}
+        Step::Stepped(_) => desk.shares.stepped_at = desk.clock,
         Step::PutOff(_) => {}
         Step::Asked(number) => let_go(desk, sockets, host, errors, number, HowEnded::Browser),
         Step::Served(number) => {

@@ -24,3 +24,6 @@ pub const ASKING: u64 = 10_000;
 
 /// How long a browser may take until its answer went out.
 pub const ANSWERING: u64 = 60_000;
+
+/// How long others are served at most until a submission that is under way has its next step.
+pub const SHARE: u64 = 20;

@@ -1,8 +1,8 @@
 -- A submission that is under way, and the peers beside it: for `Judge` and `serve_next`.
-use Rattle.std.proofs.Common.{◌≡◌, ◌≢◌, ◌∙◌, inl, inr, ℕ, ◌==◌, ◌&&◌, ◌||◌, Bool, true, false, true≢false, not, if◌then◌else◌, Option, None, Some, IsSome, is_some, Result, Ok, Err, IfOk, IfErr, refl, sym, ap, ap₂, subst}
+use Rattle.std.proofs.Common.{◌≡◌, ◌≢◌, ◌∙◌, inl, inr, ℕ, ◌==◌, ◌&&◌, Bool, true, false, true≢false, not, if◌then◌else◌, Option, None, Some, IsSome, is_some, Result, Ok, Err, IfOk, IfErr, refl, sym, ap, ap₂, subst}
 use Rattle.std.proofs.lemmas.Bool.{cases_eq, Decides.eqb_tells}
 use Rattle.{sector_disk.specs.Facts.DeviceFacts, war_types.specs.declared.settings.RawSettings.RawSettings, hill_store.specs.{Seen.{Assembled, Seen}, Submission.SubmissionParts}, koth_protocol.specs.Commands.kept_source}
-use Rattle.koth_session.specs.{Inbox.{is_met, is_submission}, Judge.{AreSubmitting, Fight, IsOfSource, Judged, fighting, judged, without}, Peer.{Closes, IsStillDue, PutsOff, Sends, Serves, is_due, is_due_now, settled_now, submits_now}}
+use Rattle.koth_session.specs.{Inbox.{is_met, is_submission}, Judge.{AreSubmitting, Fight, IsOfSource, Judged, judged, without}, Peer.{Closes, IsStillDue, PutsOff, Sends, Serves, is_due, is_due_now, settled_now, submits_now}}
 use Rattle.koth_session.specs.Peers.{IsOfIn, IsOfIts, IsOfOne, IsOfPeer, IsPutOff, IsServed, IsStepped, IsUnanswered, Moves, MovesAt, OnlyAt, Slots, is_beside, may_serve_in, peer_at}
 use Rattle.{koth_session.specs.declared.{end.PeerEnd.PeerEnd, inbox.Inbox.Inbox, peer.{Peer.Peer, Unanswered.Unanswered}}, koth_session.proofs.Standing.{goes_on_still, is_met_then, still_due}}
 

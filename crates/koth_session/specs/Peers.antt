@@ -1,6 +1,6 @@
 -- Many sessions on one store: whose turn it is, and what each call leaves as it is.
 use Rattle.std.specs.Prelude.{◌≡◌, ◌≢◌, ◌⊎◌, ⊤, ℕ, ◌+◌, ◌<◌, ◌≤◌, ◌==◌}
-use Rattle.std.specs.Prelude.{◌&&◌, ◌||◌, Bool, true, false, not, List, [], length, Option, None, Some}
+use Rattle.std.specs.Prelude.{◌&&◌, ◌||◌, Bool, true, false, not, if◌then◌else◌, List, [], length, Option, None, Some}
 use Rattle.std.specs.Prelude.{IsSome, is_some, Result, Ok, Err, slice_index_or}
 use Rattle.war_types.specs.declared.settings.RawSettings.{RawSettings}
 use Rattle.{sector_disk.specs.Facts.DeviceFacts, hill_store.specs.{Seen.Assembled, Submission.SubmissionParts}}
@@ -8,7 +8,7 @@ use Rattle.koth_protocol.specs.Commands.{kept_source}
 use Rattle.koth_session.specs.Judge.{Fight, GoesFurther, IsOfSource, Judged, fighting, without}
 use Rattle.koth_session.specs.Peer.{IsNew, PutsOff, Serves, Stays, asks_now, is_due_now, may_come_now, submits_now}
 use Rattle.koth_session.specs.{declared.end.PeerEnd.PeerEnd, declared.peers.NotConnected.NotConnected}
-use Rattle.koth_session.specs.declared.{peer.{Peer.Peer, Unanswered.Unanswered}, peers.Step.Step}
+use Rattle.koth_session.specs.declared.{peer.{Peer.Peer, Unanswered.Unanswered}, peers.Step.Step, turns.Turn.Turn}
 
 -- ---- peers by their numbers
 
@@ -91,20 +91,72 @@ may_serve_in busy n (Some peer) = is_due_now peer && is_beside busy n peer.waits
 abbrev pub may_serve_at : {A : Type 0} → Option ℕ → Slots A → ℕ → Bool
 may_serve_at busy slots n = may_serve_in busy n (peer_at slots n)
 
--- it is the first one from there on to which the turn may come
-pub record IsFirstDue {A : Type 0} (busy : Option ℕ) (slots : Slots A) (start n : ℕ) : Type 0 where
+-- A peer comes first, whoever has the turn. While a submission is under way, that is its own peer, if its share is due.
+-- If none is, it is each whose source was put off.
+abbrev pub goes_first : Bool → Option ℕ → ℕ → Bool → Bool
+goes_first share None n waits = waits
+goes_first share (Some k) n waits = share && (n == k)
+
+abbrev pub goes_first_in : {A : Type 0} → Bool → Option ℕ → ℕ → Option (Peer A) → Bool
+goes_first_in share busy n None = false
+goes_first_in share busy n (Some peer) = goes_first share busy n peer.waits
+
+abbrev pub goes_first_at : {A : Type 0} → Bool → Option ℕ → Slots A → ℕ → Bool
+goes_first_at share busy slots n = goes_first_in share busy n (peer_at slots n)
+
+-- One peer comes before another: those that come first before all others. Among these it goes round from the peer
+-- whose submission was the last one, and among the others from the one that was served last.
+abbrev pub IsAhead : Turn → ℕ → Bool → ℕ → Bool → Type 0
+IsAhead turn p true n true = ComesBefore turn.submission p n
+IsAhead turn p true n false = ⊤
+IsAhead turn p false n true = ⊥
+IsAhead turn p false n false = ComesBefore turn.command p n
+
+-- it is the one that is served next: of none before it a command may be carried out
+pub record IsNext {A : Type 0} (share : Bool) (busy : Option ℕ) (slots : Slots A) (turn : Turn) (n : ℕ) : Type 0 where
   pub within : n < length slots
   pub due : may_serve_at busy slots n ≡ true
-  pub before : (p : ℕ) → ComesBefore start p n → may_serve_at busy slots p ≡ false
+  pub before : (p : ℕ) → IsAhead turn p (goes_first_at share busy slots p) n (goes_first_at share busy slots n)
+      → may_serve_at busy slots p ≡ false
 
-abbrev pub NoneIsDueWithin : {A : Type 0} → Option ℕ → Slots A → ℕ → ℕ → Type 0
-NoneIsDueWithin busy slots from to = (p : ℕ) → from ≤ p → p < to → may_serve_at busy slots p ≡ false
+-- where the turns begin
+abbrev pub first_turn : Turn
+first_turn = record { command = 0; submission = 0 }
 
-pub record IsFirstDueWithin {A : Type 0} (busy : Option ℕ) (slots : Slots A) (from to n : ℕ) : Type 0 where
+-- And where they go on: a peer that comes first leaves the turn where it is.
+abbrev pub turn_after : Bool → ℕ → ℕ → Turn → Turn
+turn_after first next submission turn =
+    record { command = if first then turn.command else next; submission = submission }
+
+-- Of private contracts alone: which peers are sought. All to which the turn may come, or of these the ones that come
+-- first.
+abbrev pub is_sought : Option Bool → Option ℕ → ℕ → Bool → Bool
+is_sought None busy n waits = true
+is_sought (Some share) busy n waits = goes_first share busy n waits
+
+abbrev pub is_sought_in : {A : Type 0} → Option Bool → Option ℕ → ℕ → Option (Peer A) → Bool
+is_sought_in first busy n None = false
+is_sought_in first busy n (Some peer) = may_serve_in busy n (Some peer) && is_sought first busy n peer.waits
+
+abbrev pub is_sought_at : {A : Type 0} → Option Bool → Option ℕ → Slots A → ℕ → Bool
+is_sought_at first busy slots n = is_sought_in first busy n (peer_at slots n)
+
+-- it is the first one from there on that is sought
+pub record IsFirstDue {A : Type 0} (first : Option Bool) (busy : Option ℕ) (slots : Slots A) (start n : ℕ) : Type 0 where
+  pub within : n < length slots
+  pub due : is_sought_at first busy slots n ≡ true
+  pub before : (p : ℕ) → ComesBefore start p n → is_sought_at first busy slots p ≡ false
+
+abbrev pub NoneIsDueWithin : {A : Type 0} → Option Bool → Option ℕ → Slots A → ℕ → ℕ → Type 0
+NoneIsDueWithin first busy slots from to =
+    (p : ℕ) → from ≤ p → p < to → is_sought_at first busy slots p ≡ false
+
+pub record IsFirstDueWithin {A : Type 0} (first : Option Bool) (busy : Option ℕ) (slots : Slots A) (from to n : ℕ)
+    : Type 0 where
   pub above : from ≤ n
   pub below : n < to
-  pub due : may_serve_at busy slots n ≡ true
-  pub before : NoneIsDueWithin busy slots from n
+  pub due : is_sought_at first busy slots n ≡ true
+  pub before : NoneIsDueWithin first busy slots from n
 
 pub record IsFirstFree {A : Type 0} (slots : Slots A) (n : ℕ) : Type 0 where
   pub within : n < length slots
@@ -173,13 +225,15 @@ abbrev pub IsUnanswered : {D A : Type 0} → Unanswered → ℕ → Peer A → J
 IsUnanswered Unanswered.UnderWay n old_peer old new_peer new = IsStepped n old_peer old new_peer new
 IsUnanswered Unanswered.PutOff n old_peer old new_peer new = IsPutOff n old_peer old new_peer new
 
--- One peer's turn: it is the first one from there on to which it may come, and no browser's request is due of it.
-pub record ServesOne {D A : Type 0} (R : Peer A → Peer A → Type 0) (n : ℕ) (old : Slots A) (start : ℕ)
-    (old_judge : Judged D) (new : Slots A) (next : ℕ) : Type 0 where
-  pub first : IsFirstDue (fighting old_judge.under_way) old start n
+-- One peer is served: it is the next one, and no browser's request is due of it. The turns go on after it, that of
+-- submissions at this number.
+pub record ServesOne {D A : Type 0} (R : Peer A → Peer A → Type 0) (share : Bool) (n submission : ℕ) (old : Slots A)
+    (start : Turn) (old_judge : Judged D) (new : Slots A) (next : Turn) : Type 0 where
+  pub first : IsNext share (fighting old_judge.under_way) old start n
   pub taken : asks_at old n ≡ false
   pub moves : MovesAt R n old new
-  pub next_is : next ≡ n + 1
+  pub next_is :
+      next ≡ turn_after (goes_first_at share (fighting old_judge.under_way) old n) (n + 1) submission start
 
 -- what a step reports
 abbrev pub step_after : Option PeerEnd → ℕ → Step
@@ -192,24 +246,25 @@ step_after (Some PeerEnd.StepsSpent) n = Step.Served n
 step_after (Some PeerEnd.StoreFailed) n = Step.StoreFailed n
 step_after (Some PeerEnd.Memory) n = Step.Served n
 
-abbrev pub ServesNext : {D A : Type 0} → DeviceFacts D → Option ℕ → Step → Slots A → ℕ → Judged D
-    → Slots A → ℕ → Judged D → Type 0
-ServesNext facts steps Step.Nobody old start old_judge new next new_judge =
+abbrev pub ServesNext : {D A : Type 0} → DeviceFacts D → Option ℕ → Bool → Step → Slots A → Turn → Judged D
+    → Slots A → Turn → Judged D → Type 0
+ServesNext facts steps share Step.Nobody old start old_judge new next new_judge =
     ((p : ℕ) → may_serve_at (fighting old_judge.under_way) old p ≡ false) × (new ≡ old) × (next ≡ start)
     × (new_judge ≡ old_judge)
-ServesNext facts steps (Step.Served n) old start old_judge new next new_judge =
+ServesNext facts steps share (Step.Served n) old start old_judge new next new_judge =
     (outcome : Option PeerEnd) × (step_after outcome n ≡ Step.Served n)
-    × ServesOne (λ p q. IsServed facts steps outcome n p old_judge q new_judge) n old start old_judge new next
-ServesNext facts steps (Step.Stepped n) old start old_judge new next new_judge =
-    ServesOne (λ p q. IsStepped n p old_judge q new_judge) n old start old_judge new next
-ServesNext facts steps (Step.PutOff n) old start old_judge new next new_judge =
-    ServesOne (λ p q. IsPutOff n p old_judge q new_judge) n old start old_judge new next
-ServesNext facts steps (Step.Asked n) old start old_judge new next new_judge =
-    IsFirstDue (fighting old_judge.under_way) old start n × (asks_at old n ≡ true) × (new ≡ old)
-    × (next ≡ start) × (new_judge ≡ old_judge)
-ServesNext facts steps (Step.StoreFailed n) old start old_judge new next new_judge =
-    ServesOne (λ p q. IsServed facts steps (Some PeerEnd.StoreFailed) n p old_judge q new_judge) n old start
+    × ServesOne (λ p q. IsServed facts steps outcome n p old_judge q new_judge) share n start.submission old start
     old_judge new next
+ServesNext facts steps share (Step.Stepped n) old start old_judge new next new_judge =
+    ServesOne (λ p q. IsStepped n p old_judge q new_judge) share n (n + 1) old start old_judge new next
+ServesNext facts steps share (Step.PutOff n) old start old_judge new next new_judge =
+    ServesOne (λ p q. IsPutOff n p old_judge q new_judge) share n start.submission old start old_judge new next
+ServesNext facts steps share (Step.Asked n) old start old_judge new next new_judge =
+    IsNext share (fighting old_judge.under_way) old start n × (asks_at old n ≡ true) × (new ≡ old)
+    × (next ≡ start) × (new_judge ≡ old_judge)
+ServesNext facts steps share (Step.StoreFailed n) old start old_judge new next new_judge =
+    ServesOne (λ p q. IsServed facts steps (Some PeerEnd.StoreFailed) n p old_judge q new_judge) share n
+    start.submission old start old_judge new next
 
 -- ---- what connecting makes of them
 

@@ -9,7 +9,7 @@
 //! - `reply` and `answers`: the lines of the replies, and a command that is carried out on the store and answered;
 //! - `end` and `peer`: one session as a value, and how it ends;
 //! - `judge`: the store, and the submission to it that is under way, which is fought in steps;
-//! - `turns` and `peers`: many of them on one store, and whose turn it is;
+//! - `numbers`, `turns` and `peers`: many of them on one store, and whose turn it is;
 //! - `sessions`: one session over two streams: what is read is put into its peer, and each command is answered before more is read;
 //! - `laws`: what a session is in the life of its device.
 //!
@@ -19,8 +19,8 @@
 //! of it if the output fails. `line_of` and `table_of` give the program the same lines for its own outputs.
 //!
 //! Of many peers, a call on one leaves every other as it is (`OnlyAt`). The next one served is the first to which the turn may come after the
-//! one served last (`IsFirstDue`): it has a command due, and while a submission is under way it is the peer of that, or its source was not put
-//! off. Its command is the next of what came from it, and the answer is that on the hill which stands then (`Serves`). A step of a submission
+//! one served last (`IsNext`): it has a command due, and while a submission is under way it is the peer of that, or its source was not put off.
+//! Before all comes the peer of the submission that is under way, if that has its share, or if none is, a source that was put off. Its command is the next of what came from it, and the answer is that on the hill which stands then (`Serves`). A step of a submission
 //! changes neither the peers nor the store (`IsStepped`). Nor does a source of another peer that is put off then, but for its mark (`IsPutOff`).
 //! At most 4,096 bytes of a peer wait and 16,777,216 come, and at most 1,048,576 bytes of answers to it are unsent: beyond that its
 //! session ends, and no other. A service feeds them, and sends what they say.
@@ -34,6 +34,7 @@ mod end;
 mod inbox;
 mod judge;
 mod laws;
+mod numbers;
 mod outbox;
 mod peer;
 mod peers;

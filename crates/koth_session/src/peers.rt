@@ -1,13 +1,14 @@
 //! Many sessions on one store, each served in turn.
 
-ghost use Rattle.std.specs.Prelude.{◌≡◌, ℕ, ◌≤◌, true, length, option_copied, None, Some, IfErr, IfOk};
-ghost use Rattle.koth_session.specs.{Judge.{fighting, without}, Peer.{Closes, Sends, Takes}, Peers.{end_in, is_due_at, is_finished_in, may_come_at, may_come_in, may_serve_in}};
-ghost use Rattle.koth_session.specs.Peers.{peer_at, step_after, unsent_at, unsent_in, Connects, IsOfIn, IsOfOne, IsServed, IsUnanswered, Moves, MovesAt, OnlyAt, ServesNext};
+ghost use Rattle.std.specs.Prelude.{◌≡◌, ℕ, ◌≤◌, true, false, length, None, Some, IfErr, IfOk};
+ghost use Rattle.koth_session.specs.{Judge.{fighting, without}, Peer.{Closes, Sends, Takes}, Peers.{end_in, is_due_at, is_finished_in, may_come_at, may_serve_in}};
+ghost use Rattle.koth_session.specs.Peers.{first_turn, may_serve_at, peer_at, step_after, unsent_at, Connects, IsOfIn, IsOfOne, IsServed, IsUnanswered, Moves, MovesAt, OnlyAt, ServesNext};
 
 use crate::end::PeerEnd;
 use crate::judge::Judge;
+use crate::numbers::{close_at, pass_at, peer_of, take_at};
 use crate::peer::{Peer, Unanswered};
-use crate::turns::{asks, first_free, next_due};
+use crate::turns::{Turn, asks, first_free, may_serve, next_due, next_served};
 use hill_store::Reply;
 use sector_disk::Device;
 use std::alloc::{AllocError, Allocator};
@@ -39,12 +40,12 @@ pub enum Step {
     StoreFailed(usize),
 }
 
-/// Peers by their numbers, and where the turn goes on.
+/// Peers by their numbers, and where the turns go on.
 #[derive(Drop)]
 pub struct Peers<A: Allocator> {
     alloc: A,
     slots: Vec<Option<Peer<A>>, A>,
-    next: usize,
+    next: Turn,
 }
 
 impl<A: Allocator + Copy> Peers<A> {
@@ -52,7 +53,7 @@ impl<A: Allocator + Copy> Peers<A> {
     pub fn new(alloc: A, most: usize) -> Result<Peers<A>, AllocError>
         ensures most { IfOk result (λ peers. length peers.slots.items ≡ most) }
         ensures nobody { IfOk result (λ peers. (p : ℕ) → peer_at peers.slots.items p ≡ None) }
-        ensures next { IfOk result (λ peers. peers.next ≡ 0) }
+        ensures next { IfOk result (λ peers. peers.next ≡ first_turn) }
     {
         let mut slots = Vec::with_capacity(alloc, most)?;
         'slots: for _slot in 0..most {
@@ -61,7 +62,10 @@ impl<A: Allocator + Copy> Peers<A> {
         Ok(Peers {
             alloc,
             slots,
-            next: 0,
+            next: Turn {
+                command: 0,
+                submission: 0,
+            },
         })
     }
 
@@ -85,24 +89,37 @@ impl<A: Allocator + Copy> Peers<A> {
 
     /// Carries out one command at most: that of the first peer to which the turn may come, beginning after the peer served last and going
     /// round. Of a submission that is to be fought one step is made. While it is under way the turn comes to the others too: a source of theirs
-    /// is refused, or put off, and after that the turn comes to its peer once no submission is under way. A browser's request is not carried out,
-    /// and the turn stays where it is until that peer has left. Nor is a source whose assembly spends these steps.
-    pub fn serve_next<D: Device>(&mut self, steps: u64, judge: &mut Judge<D, A>) -> Step
+    /// is refused, or put off. Once it has its share, the step is its own, whoever has the turn. If no submission is under way, that of the first
+    /// source that was put off is begun, from the peer whose submission was the last one and going round. Both leave the turn where it is. A
+    /// browser's request is not carried out, and the turn stays where it is until that peer has left. Nor is a source whose assembly spends these
+    /// steps.
+    pub fn serve_next<D: Device>(
+        &mut self,
+        has_share: bool,
+        steps: u64,
+        judge: &mut Judge<D, A>,
+    ) -> Step
         ensures serves { IsOfOne judge.old.store.hill.settings self.old.slots.items judge.old.under_way
-            → ServesNext D.facts (Some steps) result self.old.slots.items self.old.next judge.old self.new.slots.items self.new.next judge.new }
+            → ServesNext D.facts (Some steps) has_share result self.old.slots.items self.old.next judge.old self.new.slots.items self.new.next judge.new }
         ensures of_one { IsOfOne judge.old.store.hill.settings self.old.slots.items judge.old.under_way
             → IsOfOne judge.new.store.hill.settings self.new.slots.items judge.new.under_way }
     {
-        let Some(number) = next_due(self.slots.as_slice(), self.next, judge.busy()) else {
+        let busy = judge.busy();
+        let Some(number) = next_served(self.slots.as_slice(), self.next, busy, has_share) else {
             return Step::Nobody;
         };
-        if asks(&self.slots[number]) {
+        let slot = &self.slots[number];
+        if asks(slot) {
             return Step::Asked(number);
         }
-        self.next = number + 1;
+        let is_first = may_serve(busy, Some(has_share), number, slot);
+        self.next = self.next.after(is_first, number + 1);
         match serve_at(self.alloc, steps, number, &mut self.slots[number], judge) {
             Ok(outcome) => step_after(outcome, number),
-            Err(Unanswered::UnderWay) => Step::Stepped(number),
+            Err(Unanswered::UnderWay) => {
+                self.next.submission = number + 1;
+                Step::Stepped(number)
+            }
             Err(Unanswered::PutOff) => Step::PutOff(number),
         }
     }
@@ -173,6 +190,17 @@ impl<A: Allocator> Peers<A> {
         }
     }
 
+    /// Whether no command may be carried out: none is due, and no submission is under way.
+    pub fn is_idle<D: Device>(&self, judge: &Judge<D, A>) -> bool
+        ensures idle { result ≡ true → (p : ℕ) → may_serve_at (fighting judge.now.under_way) self.now.slots.items p ≡ false }
+        ensures busy { result ≡ false → (p : ℕ) × (may_serve_at (fighting judge.now.under_way) self.now.slots.items p ≡ true) }
+    {
+        match next_due(self.slots.as_slice(), 0, judge.busy(), None) {
+            Some(_) => false,
+            None => true,
+        }
+    }
+
     /// The reply to the command of this peer that was carried out last, if that was a submission.
     pub fn reply(&self, number: usize) -> Option<Reply> {
         peer_of(self.slots.as_slice(), number)?.reply()
@@ -211,43 +239,6 @@ impl<A: Allocator> Peers<A> {
         if number < self.slots.len() {
             self.slots[number] = None;
         }
-    }
-}
-
-/// The peer of this number, if there is one.
-fn peer_of<A: Allocator>(slots: &[Option<Peer<A>>], number: usize) -> Option<&Peer<A>>
-    ensures { option_copied result ≡ peer_at slots.entry.now number }
-{
-    if number < slots.len() {
-        slots[number].as_ref()
-    } else {
-        None
-    }
-}
-
-fn take_at<A: Allocator>(slot: &mut Option<Peer<A>>, bytes: &[u8])
-    requires { length bytes.now ≤ may_come_in slot.old }
-    ensures { Moves (λ old new. Takes old bytes.now new) slot.old slot.new }
-{
-    if let Some(peer) = slot {
-        peer.take(bytes);
-    }
-}
-
-fn close_at<A: Allocator>(slot: &mut Option<Peer<A>>)
-    ensures { Moves Closes slot.old slot.new }
-{
-    if let Some(peer) = slot {
-        peer.close();
-    }
-}
-
-fn pass_at<A: Allocator>(slot: &mut Option<Peer<A>>, count: usize)
-    requires { count ≤ length (unsent_in slot.old) }
-    ensures { Moves (λ old new. Sends old count new) slot.old slot.new }
-{
-    if let Some(peer) = slot {
-        peer.pass(count);
     }
 }
 

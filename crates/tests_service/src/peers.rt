@@ -100,20 +100,21 @@ static PUT_OFF_BESIDE: [Act; 15] = [
     Act::Send(0, "PLACED 1 1 0\nPLACED 2 2 2\n"),
     Act::Send(1, ""),
     Act::Come(0, "SUBMIT\nJMP\n.\n"),
-    Act::Steps(&[Step::Stepped(1), Step::Served(0)]),
+    Act::Steps(&[Step::Stepped(1), Step::Stepped(1), Step::Served(0)]),
     Act::Send(0, "REFUSED 1 MissingOperand\n"),
     Act::Serve(&[Step::Served(1)]),
     Act::Steps(&[Step::Served(1), Step::Nobody]),
     Act::Send(1, "FELL 3 0\nREFUSED 1 MissingOperand\n"),
 ];
 
-/// A source that was put off isn't assembled again until no submission is under way, over two submissions of other peers.
+/// A source that was put off isn't assembled again until no submission is under way, over two submissions of other peers. Of two that were put off
+/// the first after the peer of the last submission is next.
 static PUT_OFF_BESIDE_TWO: [Act; 12] = [
     Act::Come(2, "SUBMIT\nMOV 0,1\n.\n"),
     Act::Steps(&[Step::Stepped(2)]),
-    Act::Come(1, "SUBMIT\nDAT 0,0\n.\n"),
-    Act::Steps(&[Step::PutOff(1)]),
     Act::Come(0, "SUBMIT\nJMP 0\n.\n"),
+    Act::Come(1, "SUBMIT\nDAT 0,0\n.\n"),
+    Act::Steps(&[Step::PutOff(0), Step::PutOff(1)]),
     Act::Steps(&[Step::Served(2), Step::Stepped(0), Step::Stepped(0)]),
     Act::Steps(&[Step::Served(0), Step::Stepped(1)]),
     Act::Serve(&[Step::Served(1)]),
@@ -121,6 +122,42 @@ static PUT_OFF_BESIDE_TWO: [Act; 12] = [
     Act::Send(0, "PLACED 2 2 2\n"),
     Act::Send(1, "FELL 3 0\n"),
     Act::Send(2, "PLACED 1 1 0\n"),
+];
+
+/// A submission that has its share is fought on, whoever has the turn, and the turn stays where it is: also at its last step.
+static BY_ITS_SHARE: [Act; 13] = [
+    Act::Come(0, "SUBMIT\nMOV 0,1\n.\n"),
+    Act::Serve(&[Step::Served(0)]),
+    Act::Come(0, "SUBMIT\nJMP 0\n.\n"),
+    Act::Steps(&[Step::Stepped(0)]),
+    Act::Come(1, "\n\n"),
+    Act::Come(2, "\n\n"),
+    Act::Steps(&[Step::Served(1)]),
+    Act::Share(Step::Stepped(0)),
+    Act::Share(Step::Served(0)),
+    Act::Share(Step::Served(2)),
+    Act::Steps(&[Step::Served(1), Step::Served(2), Step::Nobody]),
+    Act::Share(Step::Nobody),
+    Act::Send(0, "PLACED 1 1 0\nPLACED 2 2 2\n"),
+];
+
+/// Once a submission is given up, the source that was put off is next, whoever has the turn: not that of a peer that came while a table moved the
+/// turn on. So two peers that submit and leave in turn keep none from being judged.
+static NOBODY_STARVES: [Act; 14] = [
+    Act::Come(0, "SUBMIT\nMOV 0,1\n.\n"),
+    Act::Steps(&[Step::Stepped(0)]),
+    Act::Come(1, "SUBMIT\nJMP 0\n.\n"),
+    Act::Come(2, "SHOW\nSHOW\n"),
+    Act::Steps(&[Step::PutOff(1), Step::Served(2)]),
+    Act::Come(3, "SUBMIT\nMOV 0,1\n.\n"),
+    Act::Leave(0),
+    Act::Connect(&[0]),
+    Act::Come(0, "SUBMIT\nMOV 0,1\n.\n"),
+    Act::Steps(&[Step::Stepped(1), Step::PutOff(3), Step::PutOff(0)]),
+    Act::Steps(&[Step::Served(1), Step::Stepped(3)]),
+    Act::Send(1, "PLACED 1 1 0\n"),
+    Act::Leave(3),
+    Act::Steps(&[Step::Stepped(0), Step::Served(2)]),
 ];
 
 /// A source whose assembly spends its steps while the submission of another peer is under way ends its session, and that submission goes on.
@@ -157,6 +194,8 @@ static WITHOUT_AN_ANSWER: [Act; 10] = [
 ];
 
 static THREE: [Act; 1] = [Act::Connect(&[0, 1, 2])];
+
+static FOUR: [Act; 1] = [Act::Connect(&[0, 1, 2, 3])];
 
 static NOBODY: [Act; 0] = [];
 
@@ -239,6 +278,8 @@ fn turns(rt: HostRuntime) {
     follow(&rt, 3, &THREE, 0, &NOBODY, &REFUSED_BESIDE);
     follow(&rt, 3, &THREE, 0, &NOBODY, &PUT_OFF_BESIDE);
     follow(&rt, 3, &THREE, 0, &NOBODY, &PUT_OFF_BESIDE_TWO);
+    follow(&rt, 3, &THREE, 0, &NOBODY, &BY_ITS_SHARE);
+    follow(&rt, 4, &FOUR, 0, &NOBODY, &NOBODY_STARVES);
     follow(&rt, 3, &THREE, 0, &NOBODY, &SPENT_BESIDE);
 }
 

@@ -26,6 +26,8 @@ pub(crate) enum Act {
     Steps(&'static [Step]),
     /// A step serves this within this number of steps of an assembly.
     StepWithin(u64, Step),
+    /// A step serves this, if the submission that is under way has its share.
+    Share(Step),
     /// Steps serve these, each after the steps of a submission that is under way, and after sources that are put off meanwhile.
     Serve(&'static [Step]),
     /// A peer was given these answers, and they are sent.
@@ -119,7 +121,15 @@ fn carry_out<'m>(
         Act::Lines(count) => serve_lines(rt, peers, judge, count),
         Act::Steps(steps) => step_on(rt, peers, judge, steps, false),
         Act::StepWithin(most, step) => {
-            expect_same(rt, &peers.serve_next(most, judge), &step, "a step");
+            expect_same(rt, &peers.serve_next(false, most, judge), &step, "a step");
+        }
+        Act::Share(step) => {
+            expect_same(
+                rt,
+                &peers.serve_next(true, 1_000_000, judge),
+                &step,
+                "a step",
+            );
         }
         Act::Serve(steps) => step_on(rt, peers, judge, steps, true),
         Act::Leave(number) => peers.leave(number, judge),
@@ -183,12 +193,12 @@ fn step_on<'m>(
 /// What is served after `most` steps at most of a submission that is under way, and of sources that are put off meanwhile.
 fn served<'m>(peers: &mut Peers<Memory<'m>>, judge: &mut HillJudge<'m>, most: u32) -> Step {
     for _step in 0..most {
-        let found = peers.serve_next(1_000_000, judge);
+        let found = peers.serve_next(false, 1_000_000, judge);
         if !matches!(found, Step::Stepped(_) | Step::PutOff(_)) {
             return found;
         }
     }
-    peers.serve_next(1_000_000, judge)
+    peers.serve_next(false, 1_000_000, judge)
 }
 
 fn serve_lines<'m>(

@@ -1,9 +1,12 @@
-use Rattle.{std.proofs.Common.sym, koth_service.specs.Connections.stage_after, koth_service.proofs.Visits.moved_on}
+use Rattle.{std.proofs.Common.{subst, sym}, koth_service.specs.{Connections.{is_answered, stage_after, stage_at}, Standing.{GoesOn, shown_to}}, koth_service.proofs.Visits.moved_on}
 use Rattle.koth_service.proofs.browsers.move_on.Goals as goal
 
 pub returns-clause-served : goal.returns-clause-served
-returns-clause-served g c = λ start slots on.
-    moved_on g.S.Sockets.happened g.D.Device.facts (g.H.Host.shows c.args.host.now) start slots c.args.store.now c.args.sockets.now c.after_stage-moved.new.sockets c.settle.new.sockets c.args.number
+returns-clause-served g c = λ start slots share on.
+    subst (λ b. GoesOn g.S.Sockets.happened g.D.Device.facts (g.H.Host.shows c.args.host.now) start c.settle.new.sockets (shown_to b slots) (stage_at c.settle.new.browsers.connections.items) c.args.store.now)
+    (sym c.is_answered-has_answered.ensures)
+    (moved_on g.S.Sockets.happened g.D.Device.facts (g.H.Host.shows c.args.host.now) start slots c.args.store.now c.args.pass.may_answer (is_answered c.after_stage-moved.result) c.args.sockets.now
+    c.after_stage-moved.new.sockets c.settle.new.sockets c.args.number
     c.args.browsers.now.connections.items c.take.new.self.connections.items c.settle.new.browsers.connections.items c.in-Some.connection.stage
     (stage_after c.after_stage-moved.result) c.kept_after-kept.result (sym c.in-Some.ensures.taken) c.in-Some.ensures.comes c.after_stage-moved.ensures
-    c.kept_after-kept.ensures c.settle.ensures.closes c.settle.ensures.comes on
+    c.kept_after-kept.ensures c.settle.ensures.closes c.settle.ensures.comes share on)

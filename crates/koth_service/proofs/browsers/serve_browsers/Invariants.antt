@@ -1,7 +1,8 @@
 -- It went on as it did, however the peers stand, and what is reported stands on standard error.
-use Rattle.koth_service.specs.{Told.Grows, Connections.BrowsersGoOn}
+use Rattle.koth_service.specs.{Told.Grows, Connections.BrowsersShown}
 use Rattle.koth_service.proofs.browsers.serve_browsers.Given as goal
 
 abbrev pub invariant-loop-place : goal.invariant-loop-place
-invariant-loop-place g l = BrowsersGoOn g.S.Sockets.happened g.D.Device.facts (g.H.Host.shows l.fn.host) l.fn.store l.fn.sockets l.fn.browsers l.sockets l.browsers
+invariant-loop-place g l =
+    BrowsersShown g.S.Sockets.happened g.D.Device.facts (g.H.Host.shows l.fn.host) l.fn.store l.fn.pass.may_answer l.fn.sockets l.fn.browsers l.round.has_answered l.sockets l.browsers
     × Grows (g.E.Write.contents l.initial.errors) (g.E.Write.contents l.errors)

@@ -1,5 +1,5 @@
 -- Without connections nothing is reported.
-use Rattle.koth_service.{specs.Standing.start_at, proofs.{Ends.at_once, Told.stays}}
+use Rattle.koth_service.{specs.Services.start_at, proofs.{Ends.at_once, Told.stays}}
 use Rattle.koth_service.proofs.service.serve_at.Goals as goal
 
 pub returns-in-Err-clause-told : goal.returns-in-Err-clause-told

@@ -1,5 +1,5 @@
 -- The desk has the store and the limits that were given.
-use Rattle.{std.proofs.Common.subst, koth_service.specs.Standing.{ServesPeers, start_of}, koth_service.proofs.{Ends.at_once, Told.stays}}
+use Rattle.{std.proofs.Common.subst, koth_service.specs.Services.{ServesPeers, start_of}, koth_service.proofs.{Ends.at_once, Told.stays}}
 use Rattle.koth_service.proofs.service.serve_peers.Goals as goal
 
 pub returns-in-Ok-clause-served : goal.returns-in-Ok-clause-served

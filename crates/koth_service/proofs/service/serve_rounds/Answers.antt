@@ -1,11 +1,11 @@
 -- Round after round.
-use Rattle.{std.proofs.Common.refl, koth_service.specs.{Connections.stage_at, Standing.{peers_of, start_at}}, koth_service.proofs.{Ends.{so_far_after, so_far_done, so_far_failed}, Openings.{begun, sound_after}, Told.{grows_on, stays}}}
+use Rattle.{std.proofs.Common.refl, koth_service.specs.{Connections.stage_at, Services.start_at, Standing.peers_of}, koth_service.proofs.{Ends.{so_far_after, so_far_done, so_far_failed}, Openings.{begun, sound_after}, Told.{grows_on, stays}}}
 use Rattle.koth_service.proofs.service.serve_rounds.Goals as goal
 
 pub loop-round-init : goal.loop-round-init
 loop-round-init g c = (
   λ none. begun g.S.Sockets.happened g.D.Device.facts (g.H.Host.shows c.args.host.now) (start_at c.args.desk) (stage_at c.args.browsers.now.connections.items) c.args.sockets.now (peers_of c.args.desk)
-      c.requires.peers.nobody c.requires.peers.no_seats c.requires.browsers c.requires.peers.ended c.requires.peers.turn c.requires.peers.under_way c.requires.peers.clock c.requires.peers.read_at refl c.requires.peers.places
+      c.requires.peers.nobody c.requires.peers.no_seats c.requires.browsers c.requires.peers.ended c.requires.peers.turn c.requires.peers.under_way c.requires.peers.clock c.requires.peers.read_at c.requires.peers.shares refl c.requires.peers.places
       c.requires.peers.sound none,
   stays _,
 )

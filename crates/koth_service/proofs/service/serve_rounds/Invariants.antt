@@ -1,5 +1,5 @@
 -- The sessions and the connections went on, by some history.
-use Rattle.{std.proofs.Common.[], koth_service.specs.{Told.Grows, Connections.stage_at, Standing.{GoesOn, peers_of, start_at}}}
+use Rattle.{std.proofs.Common.[], koth_service.specs.{Told.Grows, Connections.stage_at, Services.start_at, Standing.{GoesOn, peers_of}}}
 use Rattle.koth_service.proofs.service.serve_rounds.Given as goal
 
 abbrev pub invariant-loop-round : goal.invariant-loop-round

@@ -1,6 +1,6 @@
--- The turn may come to none before this one.
+-- None before this one is sought.
 use Rattle.koth_session.specs.Peers.{NoneIsDueWithin}
 use Rattle.koth_session.proofs.turns.first_due.Given as goal
 
 abbrev pub invariant-loop-number : goal.invariant-loop-number
-invariant-loop-number g l = NoneIsDueWithin l.busy l.slots l.from l.number
+invariant-loop-number g l = NoneIsDueWithin l.first l.busy l.slots l.from l.number

@@ -1,5 +1,5 @@
 -- There are as many places as were asked for.
-use Rattle.{std.proofs.Common.{◌≡◌, subst, IfOk}, koth_service.specs.Standing.{start_at, start_of}}
+use Rattle.{std.proofs.Common.{◌≡◌, subst, IfOk}, koth_service.specs.Services.{start_at, start_of}}
 use Rattle.koth_service.proofs.desk.Desk.new.Goals as goal
 
 pub returns-in-Ok-clause-start : goal.returns-in-Ok-clause-start

@@ -12,5 +12,6 @@ returns-in-Ok-clause-begun g c = record {
   under_way = ap (λ (j : Judged _). j.under_way) c.new-in-Ok.ensures;
   clock = refl;
   read_at = refl;
+  shares = refl;
   sound = ap (λ (j : Judged _). j.store.reopen) c.new-in-Ok.ensures ∙ c.requires.sound;
 }
