@@ -1,5 +1,5 @@
 -- Whether a command of a peer is due, and whether its session has ended, by how the peer stands.
-use Rattle.std.proofs.Common.{◌≡◌, ◌⊎◌, inl, inr, ℕ, ◌<◌, ◌==◌, ◌&&◌, arith, nat_le, Bool, true, true≢false, false, not, if◌then◌else◌, length, List, [], ◌∷◌, ◌++◌, Option, None, Some}
+use Rattle.std.proofs.Common.{◌≡◌, ◌⊎◌, inl, inr, ℕ, ◌<◌, ◌==◌, ◌&&◌, arith, nat_le, Bool, true, true≢false, false, if◌then◌else◌, length, List, [], ◌∷◌, ◌++◌, Option, None, Some}
 use Rattle.std.proofs.{Common.{is_some, refl, sym, ap, subst, ◌∙◌, append-nil}, lemmas.List.append_cancel_left}
 use Rattle.koth_protocol.specs.Commands.{Command, Reader, commands_read, kept_source}
 use Rattle.koth_session.specs.{Inbox.{IsReadTo, is_met}, Peer.{HasRead, command_due, is_due, is_due_now, settled}, Peers.{end_in, is_finished_in}}

@@ -1,6 +1,6 @@
 -- Of private contracts alone: what is kept of each peer beside its session, by the numbers of the peers.
 use Rattle.std.specs.Prelude.{◌≡◌, ◌≢◌, ◌⊎◌, ℕ, ◌-◌, ◌≤◌, ◌==◌, ◌||◌, Bool}
-use Rattle.std.specs.Prelude.{true, false, not, if◌then◌else◌, List, length, Option, None, Some, slice_index_or}
+use Rattle.std.specs.Prelude.{false, not, if◌then◌else◌, List, length, Option, None, Some, slice_index_or}
 use Rattle.std.specs.List.{list_any}
 use Rattle.std.specs.declared.net.socket_addr.SocketAddr.{SocketAddr}
 use Rattle.koth_service.specs.declared.seats.{Draining.Draining, Seat.Seat}

@@ -1,15 +1,15 @@
 -- How the sessions of peers, the connections of browsers and the store stand by a history.
 use Rattle.std.specs.Prelude.{◌≡◌, ◌⊎◌, ⊤, ℕ, ◌+◌, ◌≤◌, Bool, true, false, List, [], ◌++◌, length}
-use Rattle.std.specs.Prelude.{Option, None, Some, IsSome, Result, IfOk}
-use Rattle.{war_types.specs.declared.settings.RawSettings.RawSettings, sector_disk.specs.Facts.DeviceFacts}
-use Rattle.{hill_store.specs.{Holding.IsHolding, Seen.Seen}, koth_protocol.specs.Commands.Reader}
-use Rattle.koth_session.specs.{Judge.{Fight, fighting}, Peer.IsPeer, Peers.{IsOfOne, OnlyAt, Slots, first_turn}}
+use Rattle.std.specs.Prelude.{Option, None, Some, IsSome}
+use Rattle.{sector_disk.specs.Facts.DeviceFacts}
+use Rattle.{hill_store.specs.{Seen.Seen}, koth_protocol.specs.Commands.Reader}
+use Rattle.koth_session.specs.{Judge.{Fight, fighting}, Peer.IsPeer, Peers.{IsOfOne, OnlyAt, Slots}}
 use Rattle.koth_session.specs.Peers.{is_due_in, peer_at}
 use Rattle.koth_session.specs.declared.{end.PeerEnd.PeerEnd, peer.Peer.Peer, peers.Step.Step, turns.Turn.Turn}
 use Rattle.koth_service.specs.{Noted.Noted, Seats.{IsPatienceOver, OnlySeat, Seats, has_some, seat_at}}
-use Rattle.koth_service.specs.{Moment.{Happening, Moment, Start, ended_in, moment, noted}, Rounds.{Round, Shares, shares_anew, shares_at}}
+use Rattle.koth_service.specs.{Moment.{Happening, Moment, Start, ended_in, moment, noted}, Rounds.{Round, Shares, shares_at}}
 use Rattle.koth_service.specs.Rounds.{shares_shown, shares_stepped}
-use Rattle.koth_service.specs.{History.{IsHistory, IsSafe, MayDisconnect, OpensAgain, Shows, owed_by}, Held.AreHeld}
+use Rattle.koth_service.specs.{History.{IsHistory, IsSafe, MayDisconnect, Shows, owed_by}}
 use Rattle.koth_service.specs.{Session.{Browser, Session}, declared.{connections.Stage.Stage, desk.{Desk.Desk, DeskShares.DeskShares}}}
 use Rattle.koth_service.specs.declared.{host.HowEnded.HowEnded, seats.Seat.Seat}
 

@@ -1,5 +1,5 @@
 -- One peer more.
-use Rattle.{std.proofs.Common.{arith, ◌∙◌, sym}, koth_service.proofs.Places.{full_to, is_longest, none_yet}}
+use Rattle.{std.proofs.Common.{arith, ◌∙◌, sym}, koth_service.proofs.Places.{full_to, none_yet}}
 use Rattle.koth_service.proofs.arrivals.place_for_one.Goals as goal
 
 pub loop-number-init : goal.loop-number-init

@@ -1,5 +1,5 @@
 -- A browser is answered only while its request comes.
-use Rattle.{std.proofs.Common.refl, koth_service.proofs.Visits.unshown}
+use Rattle.{koth_service.proofs.Visits.unshown}
 use Rattle.koth_service.proofs.moves.after_stage.Goals as goal
 
 pub returns-then-may_answer : goal.returns-then-may_answer

@@ -1,5 +1,5 @@
 -- One peer more.
-use Rattle.{std.proofs.Common.◌∙◌, koth_service.proofs.{Awaiting.{all_awaited, awaited_on}, Told.grows_on}}
+use Rattle.{std.proofs.Common.◌∙◌, koth_service.proofs.{Awaiting.{awaited_on}, Told.grows_on}}
 use Rattle.koth_service.proofs.parting.part_all.Goals as goal
 
 pub loop-number-preserved : goal.loop-number-preserved

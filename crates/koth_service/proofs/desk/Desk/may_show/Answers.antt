@@ -1,5 +1,5 @@
 -- As much time has gone by, or nobody may be served.
-use Rattle.std.proofs.Common.{inl, inr, arith, refl}
+use Rattle.std.proofs.Common.{inr, refl}
 use Rattle.koth_service.proofs.desk.Desk.may_show.Goals as goal
 
 pub returns : goal.returns
