@@ -2,7 +2,8 @@
 //! Each function says so of the connections that it moves, however the peers and the other browsers stand.
 #![tactic(auto, using(crate::proofs::Told::stays))]
 
-ghost use Rattle.{std.specs.Prelude.{[], ◌≡◌, ◌&&◌, not}, hill_store.specs.Seen.Seen};
+ghost use Rattle.std.specs.Prelude.{[], ◌≡◌, ◌&&◌, not};
+ghost use Rattle.hill_store.specs.Seen.{Seen};
 ghost use Rattle.koth_service.specs.Connections.{
   BrowsersGoOn,
   BrowsersShown,

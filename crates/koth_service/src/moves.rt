@@ -1,7 +1,8 @@
 //! How one connection of a browser moves on: what comes of its request, and how its answer goes out.
 #![tactic(auto, using(crate::proofs::Told::stays))]
 
-ghost use Rattle.{std.specs.Prelude.{◌≡◌, Some, false, true}, hill_store.specs.Seen.Seen, koth_service.specs.Connections.{MovesOn, ShownOn, is_answered, stage_after}};
+ghost use Rattle.std.specs.Prelude.{◌≡◌, Some, false, true};
+ghost use Rattle.{hill_store.specs.Seen.Seen, koth_service.specs.Connections.{MovesOn, ShownOn, is_answered, stage_after}};
 ghost use Rattle.koth_service.specs.declared.connections.Stage.TheVariants as stages;
 
 use crate::answering::answer_visit;
