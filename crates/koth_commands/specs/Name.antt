@@ -1,6 +1,6 @@
 -- The name of a file as messages have it.
 use Rattle.std.specs.{Prelude.{ℕ, ◌+◌, ◌/◌, ◌%◌, nat_lt, ◌==◌, if◌then◌else◌, List, [], ◌∷◌}, Char.encode_utf8, List.flat_map, Str.chars}
-use Rattle.redcode_lines.specs.Shown.is_acted_on
+use Rattle.redcode_lines.specs.Shown.{is_acted_on}
 
 -- the last digit of a number in base 16: 0 to 9 and a to f
 abbrev pub hex_digit : ℕ → ℕ
