@@ -1,8 +1,15 @@
 -- The lines of a report, one after another.
-use Rattle.std.proofs.{Common.{◌≡◌, ◌∙◌, ◌<◌, ◌+◌, ◌++◌, ◌||◌, ◌&&◌, ℕ, List, [], ◌∷◌, Bool, false, Some, Result, Ok, Err, ap, ap₂, append-nil, append_assoc, get_or, length, map, refl, subst, sym, take}, lemmas.List.map_more}
-use Rattle.{std.specs.Prelude.is_err, war_types.specs.{Warrior.WarriorParts, declared.fault.AsmFault.AsmFault}, redcode_diagnosis.specs.Told.{Tells, TellsAll}, redcode_asm.specs.Assembly.assembly, redcode_warnings.specs.Warnings.Noted}
+use Rattle.std.proofs.{Common.{◌≡◌, ◌∙◌, ◌<◌, ◌+◌, ◌++◌, ◌||◌, ◌&&◌, ℕ, List, [], ◌∷◌, Bool, false, Some, Result, Ok, Err, OnOk, ap, ap₂, append-nil, append_assoc, get_or, length, map, refl, subst, sym, take}, lemmas.List.map_more}
+use Rattle.{std.specs.Prelude.{is_err, is_ok, if◌then◌else◌}, war_types.specs.{Warrior.WarriorParts, declared.fault.AsmFault.AsmFault}, redcode_diagnosis.specs.Told.{Tells, TellsAll}, redcode_asm.specs.Assembly.assembly, redcode_warnings.specs.Warnings.Noted}
 use Rattle.{war_types.specs.declared.settings.RawSettings.RawSettings, koth_commands.specs.{Answer.answer_parts, declared.status.Status.Status}}
 use Rattle.koth_commands.specs.Report.{Manner, AreLines, IsAnswered, IsNoteOf, TellsFound, found_fault, found_warning, has_any, is_refused, status_by, warnings_if}
+
+-- three parts were put, one after another
+pub three_put : {T E : Type 0} (result : Result T E) (new last before first a b c : List ℕ) → first ≡ before ++ a → last ≡ first ++ b
+    → new ≡ (if is_ok result then last ++ c else last) → OnOk result (new ≡ before ++ (a ++ (b ++ c)))
+three_put (Ok value) new last before first a b c one two three =
+    three ∙ ap (λ t. t ++ c) (two ∙ ap (λ t. t ++ b) one) ∙ append_assoc (before ++ a) b c ∙ append_assoc before a (b ++ c)
+three_put (Err error) new last before first a b c one two three = tt
 
 -- those of two lists, one after the other
 lines_both : {X : Type 0} (IsLine : X → List ℕ → Type 0) (xs ys : List X) (text more : List ℕ) → AreLines IsLine xs text → AreLines IsLine ys more

@@ -78,12 +78,12 @@ pub record IsReport (s : RawSettings) (how : Manner) (name source text : List �
       (map found_fault faults ++ map found_warning (warnings_if how.warnings source)) text
 
 -- what is told of a source whose assembly spends what a service gives it by default
-abbrev pub steps_spent : List ℕ
-steps_spent = codes ": over " ++ (decimal STEPS ++ codes " steps: a service doesn't assemble it (--steps)\n")
+abbrev pub steps_over : ℕ → List ℕ
+steps_over steps = codes ": over " ++ (decimal steps ++ codes " steps: a service doesn't assemble it (--steps)\n")
 
 -- the line of one that is called so
 abbrev pub steps_told : List ℕ → List ℕ
-steps_told name = shown_name name ++ steps_spent
+steps_told name = shown_name name ++ steps_over STEPS
 
 -- what is written of it on standard error: nothing, or that line if its assembly may spend that
 abbrev pub IsNoteOf : List ℕ → List ℕ → List ℕ → Type 0

@@ -3,7 +3,7 @@
 ghost use Rattle.std.specs.Prelude.{◌≡◌, ◌||◌, ◌&&◌, ◌++◌, All, map, true, false, IfOk, OnOk, MatchResult};
 ghost use Rattle.{redcode_asm.specs.Within.MaySpend, redcode_lines.specs.Place.{IsPlaceIn, line_text}, koth_json.specs.Finding.finding_line};
 ghost use Rattle.{koth_words.specs.declared.serving.TheConstants.STEPS, koth_commands.specs.Trouble.no_memory};
-ghost use Rattle.koth_commands.specs.Report.{has_any, manner_of, status_by, steps_spent, steps_told, warnings_if, AreLines, IsAnswered, IsNoteOf, TellsFound};
+ghost use Rattle.koth_commands.specs.Report.{has_any, manner_of, status_by, steps_over, steps_told, warnings_if, AreLines, IsAnswered, IsNoteOf, TellsFound};
 
 use crate::answer::Answer;
 use crate::name::{name_text, put_name};
@@ -227,15 +227,15 @@ fn put_slow_note<A: Allocator>(note: &mut Vec<u8, A>, name: &str) -> Result<(), 
     ensures { OnOk result (note.new.items ≡ note.old.items ++ steps_told name.now) }
 {
     put_name(note, name)?;
-    put_steps_spent(note)
+    put_steps_over(note, STEPS)
 }
 
 /// Puts what follows the name in it.
-fn put_steps_spent<A: Allocator>(note: &mut Vec<u8, A>) -> Result<(), AllocError>
-    ensures { OnOk result (note.new.items ≡ note.old.items ++ steps_spent) }
+fn put_steps_over<A: Allocator>(note: &mut Vec<u8, A>, steps: u32) -> Result<(), AllocError>
+    ensures { OnOk result (note.new.items ≡ note.old.items ++ steps_over steps) }
 {
     note.extend_from_slice(b": over ")?;
-    put_number(note, u64::from(STEPS))?;
+    put_number(note, u64::from(steps))?;
     note.extend_from_slice(b" steps: a service doesn't assemble it (--steps)\n")
 }
 
