@@ -62,7 +62,8 @@ macro_rules! small {
 pub(crate) use small;
 
 /// A source is read into a buffer and assembled by 10 growths. A hill is created by 5, the members and an arena's four, after two for the
-/// name of its new file, and opened by these and the code of the one warrior. One that is looked at is read into memory first. The hill of
+/// name of its new file, and opened by these and the code of the one warrior, after one for the name of its folder if it is to be changed. One
+/// that is looked at is read into memory first. The hill of
 /// the old format that is moved to a file that is made has three warriors. A line that is answered takes one growth, before anything is
 /// done. Texts grow from 8 bytes to 16, 32 and 64, load text from 4. For a hill with another seed, a device and a hill on it are made in
 /// memory, and its warrior is written as a source and submitted by 34 growths. The matches of a trial take 16 after its answer.
@@ -75,7 +76,7 @@ static COMMANDS: [Command; 14] = commands! {
     1 + 6 + 1 + 3 + 1 + 2 + 1, 0, 0 => "koth show growths.hill --matches", "" => "1 1 0 0 Unnamed by Anonymous\n.\n    1\n 1  -\n";
     1 + 6 + 1, 0, 0 => "koth audit growths.hill", "" => "true\n";
     1 + 1 + 5 + 3, 0, 0 => "koth migrate old_growths.hill growing.hill", "" => "MIGRATED\n";
-    6 + 1 + 1, 10, 0 => "koth submit growths.hill growths.red", "" => PLACED;
+    6 + 1 + 1 + 1, 10, 0 => "koth submit growths.hill growths.red", "" => PLACED;
     1 + 6 + 5, 0, 0 => "koth show growths.hill --settings", ""
         => "--core 64 --cycles 100 --processes 8 --length 10 --distance 10 --rounds 2 --capacity 2 --read-limit 0 --write-limit 0\n";
     1 + 6 + 1 + 1, 10, 0 => "koth try growths.hill growths.red", "" => PLACED;
