@@ -50,7 +50,9 @@ class Checks:
             self.fault(what, repr(failure))
 
     def end(self) -> typing.NoReturn:
-        """Ends the script with the count as its last line. The status is 1 if a check failed or none was made, else 77 if one was not tried."""
+        """Ends the script with the count as its last line. The status is 1 if a check failed or none was made, else 77
+        if one was not tried."""
         failed = self.found.count(False)
-        say(f"{self.found.count(True)} as expected, {failed} not" + f", {self.not_tried} not tried" * bool(self.not_tried))
+        say(f"{self.found.count(True)} as expected, {failed} not" + f", {self.not_tried} not tried"
+            * bool(self.not_tried))
         sys.exit(1 if failed or not (self.found or self.not_tried) else NOT_TRIED if self.not_tried else 0)

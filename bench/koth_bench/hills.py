@@ -24,7 +24,8 @@ def create(koth: str, hill: str, *settings: str, sources: typing.Iterable[str] =
 
 
 class Hill:
-    """A hill by its rules. Its warriors are numbered from 1 on as they are submitted, and `counts` gives what one of two won, and their ties."""
+    """A hill by its rules. Its warriors are numbered from 1 on as they are submitted, and `counts` gives what one of
+    two won, and their ties."""
 
     def __init__(self, capacity: int, counts: typing.Callable[[int, int], Counts]) -> None:
         self.capacity, self.counts = capacity, counts
@@ -41,10 +42,12 @@ class Hill:
         return sorted(((self.points(entry, self.ages), entry) for entry in self.ages), key=lambda it: (-it[0], it[1]))
 
     def submit(self) -> str:
-        """Judges the next warrior, and returns the reply. If the hill is full, the one with the fewest points falls, of equal ones the youngest."""
+        """Judges the next warrior, and returns the reply. If the hill is full, the one with the fewest points falls, of
+        equal ones the youngest."""
         self.entries += 1
         entry, together = self.entries, [*self.ages, self.entries]
-        least, falls = min((self.points(it, together), -it) for it in together) if len(together) > self.capacity else (0, 0)
+        least, falls = min((self.points(it,
+                                        together), -it) for it in together) if len(together) > self.capacity else (0, 0)
         if -falls == entry:
             return f"FELL {entry} {least}\n"
         self.ages = {**{it: age + 1 for it, age in self.ages.items() if it != -falls}, entry: 0}

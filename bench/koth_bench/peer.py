@@ -16,6 +16,7 @@ class Peer:
     def __init__(self, port: int, address: str = "127.0.0.1", patience: float = PATIENCE) -> None:
         self.socket = socket.create_connection(("127.0.0.1", port), patience, (address, 0))
         self.port: int = self.socket.getsockname()[1]
+        self.is_late = self.is_gone = False  # whether nothing came in time, and whether the connection was reset
 
     def __enter__(self) -> typing.Self:
         return self
@@ -30,21 +31,29 @@ class Peer:
 
     def send_if_open(self, data: bytes) -> typing.Self:
         """Sends these bytes, or as many as the other side takes before it is gone."""
-        with contextlib.suppress(OSError):
+        try:
             self.socket.sendall(data)
+        except TimeoutError:
+            self.is_late = True
+        except OSError:
+            self.is_gone = True
         return self
 
     def read(self, is_whole: typing.Callable[[bytes], bool] = lambda _: False, seconds: float | None = None) -> bytes:
         """What comes until it is whole or the connection has ended, for these seconds at most if they are given."""
         found, before, until = b"", self.socket.gettimeout(), time.monotonic() + (seconds or 0)
-        with contextlib.suppress(OSError):
+        try:
             while not is_whole(found):
                 if seconds is not None:
                     self.socket.settimeout(max(until - time.monotonic(), 0.001))
                 if not (some := self.socket.recv(BLOCK)):
                     break
                 found += some
-            self.socket.settimeout(before)
+        except TimeoutError:
+            self.is_late = True
+        except OSError:
+            self.is_gone = True
+        self.socket.settimeout(before)
         return found
 
     def read_to(self, end: bytes, seconds: float | None = None) -> bytes:
@@ -69,7 +78,11 @@ class Peer:
 
     def table(self, seconds: float | None = None) -> bytes:
         """The answer to `SHOW`, whole if it ends with the line of one dot."""
-        return self.send_if_open(b"SHOW\n").read(lambda found: found == b".\n" or found.endswith(b"\n.\n"), seconds)
+        return self.send_if_open(b"SHOW\n").read_table(seconds)
+
+    def read_table(self, seconds: float | None = None) -> bytes:
+        """What comes up to the line of one dot."""
+        return self.read(lambda found: found == b".\n" or found.endswith(b"\n.\n"), seconds)
 
     def finish(self) -> typing.Self:
         """Ends what this side sends."""
@@ -77,6 +90,7 @@ class Peer:
         return self
 
     def finish_if_open(self) -> typing.Self:
+        """Ends what this side sends, if the other side is still there."""
         with contextlib.suppress(OSError):
             self.finish()
         return self

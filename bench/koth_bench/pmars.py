@@ -12,7 +12,8 @@ Counts = tuple[int, int, int]  # rounds that the first warrior won, that the sec
 def add_argument(parser: argparse.ArgumentParser, path: str | None = None) -> None:
     """Lets a headless pMARS be named by `--pmars` or by the variable PMARS; else it is this one."""
     default = os.environ.get("PMARS") or path
-    parser.add_argument("--pmars", default=default and os.path.abspath(default), type=lambda path: os.path.abspath(path), metavar="PROGRAM")
+    parser.add_argument("--pmars", default=default and os.path.abspath(default),
+                        type=lambda path: os.path.abspath(path), metavar="PROGRAM")
 
 
 def fight(program: str, rounds: int, first: str, second: str) -> list[str]:

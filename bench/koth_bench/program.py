@@ -12,7 +12,8 @@ NOT_TRIED = 77  # the status of a script that can't try everything on this machi
 
 
 def program() -> str:
-    """The path of the program that the script `koth` takes: the one proved in this clone, else the released one. Ends the script if there is none."""
+    """The path of the program that the script `koth` takes: the one proved in this clone, else the released one. Ends
+    the script if there is none."""
     found = subprocess.run([f"{ROOT}/script/program"], stdout=subprocess.PIPE, text=True, check=False)
     if found.returncode:
         sys.exit(found.returncode)
@@ -20,11 +21,13 @@ def program() -> str:
 
 
 class Arguments(argparse.ArgumentParser):
-    """The arguments of a script that tries the program: its help is the text of the script, and it takes `--koth PROGRAM`."""
+    """The arguments of a script that tries the program: its help is the text of the script, and it takes `--koth
+    PROGRAM`."""
 
     def __init__(self, text: str | None) -> None:
         super().__init__(description=text, formatter_class=argparse.RawDescriptionHelpFormatter)
-        self.add_argument("--koth", metavar="PROGRAM", help="the program that is tried; else the one that the script `koth` takes")
+        self.add_argument("--koth", metavar="PROGRAM",
+                          help="the program that is tried; else the one that the script `koth` takes")
 
     def parse(self, default: typing.Callable[[], str] = program) -> argparse.Namespace:
         """What was given, with the path of the program. `default` finds that where none was given."""
