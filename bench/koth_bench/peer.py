@@ -13,8 +13,19 @@ BLOCK = 65536
 class Peer:
     """A connection to a port of this machine. A reset is an end of it, and so is nothing for its patience, in seconds."""
 
-    def __init__(self, port: int, address: str = "127.0.0.1", patience: float = PATIENCE) -> None:
-        self.socket = socket.create_connection(("127.0.0.1", port), patience, (address, 0))
+    def __init__(self, port: int, address: str = "127.0.0.1", patience: float = PATIENCE, room: int = 0) -> None:
+        """Connects from this address. If `room` isn't 0, the system holds about as many bytes that were not read."""
+        self.socket = socket.socket()
+        self.socket.settimeout(patience)
+        if room:
+            self.socket.setsockopt(socket.SOL_SOCKET, socket.SO_RCVBUF, room)
+        try:
+            if address != "127.0.0.1":
+                self.socket.bind((address, 0))
+            self.socket.connect(("127.0.0.1", port))
+        except OSError:
+            self.socket.close()
+            raise
         self.port: int = self.socket.getsockname()[1]
         self.is_late = self.is_gone = False  # whether nothing came in time, and whether the connection was reset
 

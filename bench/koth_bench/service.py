@@ -34,7 +34,7 @@ class Service:
         if not line.startswith("LISTENING "):
             log_of_it = self.process.communicate(timeout=PATIENCE)[1]
             raise OSError(f"koth serve {' '.join(flags)} ended with {self.process.returncode}: {log_of_it}")
-        self.port, self.log, self.address, self.pages = int(line.split()[1]), "", "", 0
+        self.port, self.log, self.output, self.address, self.pages = int(line.split()[1]), "", "", "", 0
         while "--http" in flags and not self.pages and self.process.stderr and (line := self.process.stderr.readline()):
             self.log += line
             if found := PAGES.fullmatch(line):
@@ -83,13 +83,14 @@ class Service:
         return self.wait()
 
     def wait(self, seconds: float = PATIENCE) -> str:
-        """Waits for its end, kills it after these seconds, and returns its log."""
+        """Waits for its end, kills it after these seconds, and returns its log. What it printed after `LISTENING` is
+        its `output`."""
         try:
-            rest = self.process.communicate(timeout=seconds)[1]
+            output, rest = self.process.communicate(timeout=seconds)
         except subprocess.TimeoutExpired:
             self.process.kill()
-            rest = self.process.communicate()[1]
-        self.log += rest or ""
+            output, rest = self.process.communicate()
+        self.output, self.log = self.output + output, self.log + (rest or "")
         return self.log
 
     def logged(self) -> dict[int, list[str]]:
