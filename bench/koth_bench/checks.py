@@ -1,0 +1,58 @@
+"""Counts what is as expected, and reports what is not."""
+
+import os
+import subprocess
+import sys
+import typing
+
+from .program import NOT_TRIED
+
+NAME = f"bench/{os.path.basename(sys.argv[0])}"
+
+
+def say(text: str) -> None:
+    """Prints a line under the name of the script."""
+    print(f"{NAME}: {text}", flush=True)
+
+
+class Checks:
+    """What was checked, and whether it was as expected."""
+
+    def __init__(self) -> None:
+        self.found: list[bool] = []
+        self.not_tried = 0
+
+    def that(self, holds: object, otherwise: str) -> bool:
+        """Counts a check, prints the sentence unless it holds, and returns whether it does."""
+        self.found.append(bool(holds))
+        if not holds:
+            say(otherwise)
+        return bool(holds)
+
+    def same(self, found: object, expected: object, what: str) -> bool:
+        """Counts whether `found` is `expected`."""
+        return self.that(found == expected, f"{what}: {found!r}, and not {expected!r}")
+
+    def fault(self, what: str, fault: str) -> bool:
+        """Counts a check whose fault is known: none if that is empty. A line reports either."""
+        self.found.append(not fault)
+        say(f"{what}: {fault or 'as expected'}")
+        return not fault
+
+    def trial(self, what: str, trial: typing.Callable[[], str]) -> None:
+        """Counts a trial that returns its fault, or nothing. One that the system doesn't permit is not tried."""
+        try:
+            self.fault(what, trial())
+        except PermissionError as refused:
+            self.not_tried += 1
+            say(f"{what}: not tried: {refused}")
+        except (OSError, subprocess.SubprocessError, ValueError) as failure:
+            self.fault(what, repr(failure))
+
+    def end(self) -> typing.NoReturn:
+        """Ends the script with the count as its last line. The status is 1 if a check failed or none was made, else 77
+        if one was not tried."""
+        failed = self.found.count(False)
+        say(f"{self.found.count(True)} as expected, {failed} not" + f", {self.not_tried} not tried"
+            * bool(self.not_tried))
+        sys.exit(1 if failed or not (self.found or self.not_tried) else NOT_TRIED if self.not_tried else 0)

@@ -1,0 +1,56 @@
+"""Hills for trials, and the rules of a hill written down once more."""
+
+import os
+import typing
+
+from .processes import output_of
+from .program import ROOT
+
+NAMES = ("imp", "dwarf", "clear", "scanner", "paper", "ring")  # warriors of the repository that fight each other evenly
+Counts = tuple[int, int]  # rounds that a warrior won, and ties
+
+
+def warriors() -> list[str]:
+    """The paths of the repository's warriors."""
+    return [f"{ROOT}/warriors/{name}" for name in sorted(os.listdir(f"{ROOT}/warriors")) if name.endswith(".red")]
+
+
+def create(koth: str, hill: str, *settings: str, sources: typing.Iterable[str] = (), folder: str | None = None) -> str:
+    """Makes a hill under these settings, submits these sources to it, and returns its path."""
+    output_of(koth, "create", hill, *settings, folder=folder)
+    for source in sources:
+        output_of(koth, "submit", hill, source, folder=folder)
+    return hill
+
+
+class Hill:
+    """A hill by its rules. Its warriors are numbered from 1 on as they are submitted, and `counts` gives what one of
+    two won, and their ties."""
+
+    def __init__(self, capacity: int, counts: typing.Callable[[int, int], Counts]) -> None:
+        self.capacity, self.counts = capacity, counts
+        self.entries = 0
+        self.ages: dict[int, int] = {}
+
+    def points(self, entry: int, entries: typing.Iterable[int]) -> int:
+        """The points of an entry among these: three for a round won, and one for a tie."""
+        counts = [self.counts(entry, other) for other in entries if other != entry]
+        return sum(3 * won + tied for won, tied in counts)
+
+    def ranked(self) -> list[tuple[int, int]]:
+        """The points and the entries on the hill, the best first; of equal ones the older is first."""
+        return sorted(((self.points(entry, self.ages), entry) for entry in self.ages), key=lambda it: (-it[0], it[1]))
+
+    def submit(self) -> str:
+        """Judges the next warrior, and returns the reply. If the hill is full, the one with the fewest points falls, of
+        equal ones the youngest."""
+        self.entries += 1
+        entry, together = self.entries, [*self.ages, self.entries]
+        least, falls = min((self.points(it,
+                                        together), -it) for it in together) if len(together) > self.capacity else (0, 0)
+        if -falls == entry:
+            return f"FELL {entry} {least}\n"
+        self.ages = {**{it: age + 1 for it, age in self.ages.items() if it != -falls}, entry: 0}
+        ranked = self.ranked()
+        rank = next(at for at, (_, it) in enumerate(ranked) if it == entry)
+        return f"PLACED {entry} {rank + 1} {ranked[rank][0]}\n"
