@@ -4,7 +4,8 @@ import random
 
 SECTOR = 512
 HEADERS, SLOT = 2, 4  # sectors of the headers, and of a slot, whose last one has the fields
-OPERATIONS = b"DAT MOV ADD SUB MUL DIV MOD JMP JMZ JMN DJN CMP SEQ SNE SLT SPL NOP LDP STP PIN ORG END EQU FOR ROF XYZ".split()
+OPERATIONS = b"DAT MOV ADD SUB MUL DIV MOD JMP JMZ JMN DJN CMP SEQ SNE SLT SPL NOP".split()
+OPERATIONS += b"LDP STP PIN ORG END EQU FOR ROF XYZ".split()
 MODIFIERS = [b"", b"", b".A", b".B", b".AB", b".BA", b".F", b".X", b".I", b".", b".Q"]
 MODES = [b"", b"", b"#", b"$", b"*", b"@", b"{", b"<", b"}", b">"]
 NAMES = [b"a", b"b", b"i", b"j", b"step", b"loop", b"x01", b"CORESIZE", b"MAXLENGTH", b"CURLINE", b"WARRIORS", b"_q",
