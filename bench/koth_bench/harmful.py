@@ -4,7 +4,8 @@ import random
 
 SECTOR = 512
 HEADERS, SLOT = 2, 4  # sectors of the headers, and of a slot, whose last one has the fields
-OPERATIONS = b"DAT MOV ADD SUB MUL DIV MOD JMP JMZ JMN DJN CMP SEQ SNE SLT SPL NOP LDP STP PIN ORG END EQU FOR ROF XYZ".split()
+OPERATIONS = b"DAT MOV ADD SUB MUL DIV MOD JMP JMZ JMN DJN CMP SEQ SNE SLT SPL NOP".split()
+OPERATIONS += b"LDP STP PIN ORG END EQU FOR ROF XYZ".split()
 MODIFIERS = [b"", b"", b".A", b".B", b".AB", b".BA", b".F", b".X", b".I", b".", b".Q"]
 MODES = [b"", b"", b"#", b"$", b"*", b"@", b"{", b"<", b"}", b">"]
 NAMES = [b"a", b"b", b"i", b"j", b"step", b"loop", b"x01", b"CORESIZE", b"MAXLENGTH", b"CURLINE", b"WARRIORS", b"_q",
@@ -21,8 +22,8 @@ class Maker:
     def expression(self, depth: int) -> bytes:
         pick = self.random.random()
         if depth == 0 or pick < 0.4:
-            return self.random.choice([b"%d" % self.random.randrange(10), b"%d" % self.random.randrange(1 << 65),
-                                       self.random.choice(NAMES)])
+            numbers = [b"%d" % self.random.randrange(10), b"%d" % self.random.randrange(1 << 65)]
+            return self.random.choice([*numbers, self.random.choice(NAMES)])
         if pick < 0.6:
             return b"(" + self.expression(depth - 1) + b")"
         if pick < 0.7:
@@ -34,8 +35,8 @@ class Maker:
 
     def line(self) -> bytes:
         pick = self.random.random()
-        label = self.random.choice([b"", b"", self.random.choice(NAMES) + b" ", self.random.choice(NAMES) + b": ",
-                                    b"a&i "])
+        names = self.random.choice(NAMES) + b" ", self.random.choice(NAMES) + b": "
+        label = self.random.choice([b"", b"", *names, b"a&i "])
         if pick < 0.55:
             operands = b", ".join(self.operand() for _ in range(self.random.choice([0, 1, 2, 2, 2, 3])))
             return label + self.random.choice(OPERATIONS) + self.random.choice(MODIFIERS) + b" " + operands
@@ -70,8 +71,8 @@ class Maker:
 
     def claim(self) -> bytes:
         """An expression that has a value, often 0."""
-        left, right = (self.random.choice([b"CORESIZE", b"MAXLENGTH", b"CURLINE", b"WARRIORS",
-                                           b"%d" % self.random.randrange(9)]) for _ in range(2))
+        names = [b"CORESIZE", b"MAXLENGTH", b"CURLINE", b"WARRIORS"]
+        left, right = (self.random.choice([*names, b"%d" % self.random.randrange(9)]) for _ in range(2))
         return left + self.random.choice([b" == ", b" != ", b" < ", b" >= ", b" && ", b" || ", b" - ", b" * "]) + right
 
     def plain(self) -> bytes:
@@ -92,8 +93,8 @@ class Maker:
         elif pick < 0.97:
             text = bytes(self.random.randrange(256) for _ in range(self.random.randrange(400)))
         else:
-            text = self.random.choice([b"\n", b"DAT 0\n", b"a ", b";", b"i&", b"(", b"FOR 1\n",
-                                       b"FOR 4096\n"]) * self.random.choice([999, 5000, 40000, 65536])
+            text = self.random.choice([b"\n", b"DAT 0\n", b"a ", b";", b"i&", b"(", b"FOR 1\n", b"FOR 4096\n"])
+            text *= self.random.choice([999, 5000, 40000, 65536])
         return self.turned(text + b"\n") if self.random.random() < 0.5 else text + b"\n"
 
     def nested(self, depth: int) -> bytes:
@@ -126,8 +127,8 @@ class Maker:
                 source = self.source()[:3000]
                 if self.random.random() < 0.8:
                     source = source.replace(b"\n.", b"\n..")
-                parts.append(b"SUBMIT\n" + source + self.random.choice([b".\n", b".\n", b".\r\n", b"\n.\n", b"",
-                    b".."]))
+                ends = [b".\n", b".\n", b".\r\n", b"\n.\n", b"", b".."]
+                parts.append(b"SUBMIT\n" + source + self.random.choice(ends))
             elif pick < 0.7:
                 parts.append(self.random.choice([b"SHOW\n", b"SHOW\r\n", b"SHOW \n", b"show\n", b"SHOW\r\r\n"]))
             elif pick < 0.8:
@@ -155,8 +156,8 @@ class Maker:
             else:
                 at = self.random.randrange(len(image)) if image else 0
             if pick < 0.9 and at < len(image):
-                image[at] = self.random.choice([0, 1, 2, 255, image[at] ^ 1 << self.random.randrange(8),
-                                                self.random.randrange(256)])
+                turned = image[at] ^ 1 << self.random.randrange(8)
+                image[at] = self.random.choice([0, 1, 2, 255, turned, self.random.randrange(256)])
             elif pick < 0.96:
                 one, two = (self.random.randrange(sectors) * SECTOR for _ in range(2))
                 image[one:one + SECTOR], image[two:two + SECTOR] = image[two:two + SECTOR], image[one:one + SECTOR]

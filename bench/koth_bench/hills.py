@@ -7,6 +7,16 @@ from .processes import output_of
 from .program import ROOT
 
 NAMES = ("imp", "dwarf", "clear", "scanner", "paper", "ring")  # warriors of the repository that fight each other evenly
+# a warrior of which an author tries the step
+BOMBER = """;redcode-94
+;name Step {step}
+;assert CORESIZE == 8000
+bomb  DAT #0, #0
+start ADD #{step}, bomb
+      MOV bomb, @bomb
+      JMP start
+      END start
+"""
 Counts = tuple[int, int]  # rounds that a warrior won, and ties
 
 

@@ -11,7 +11,7 @@ BLOCK = 65536
 
 
 class Peer:
-    """A connection to a port of this machine. A reset is an end of it, and so is nothing for its patience, in seconds."""
+    """A connection to a port of this machine. A reset ends it, and so does nothing for its patience, in seconds."""
 
     def __init__(self, port: int, address: str = "127.0.0.1", patience: float = PATIENCE, room: int = 0) -> None:
         """Connects from this address. If `room` isn't 0, the system holds about as many bytes that were not read."""

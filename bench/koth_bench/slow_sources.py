@@ -5,6 +5,7 @@ import string
 import typing
 
 LIMIT = 65536  # bytes of a source
+RESERVED = "dat mov add sub mul div mod jmp jmz jmn djn cmp seq sne slt spl nop ldp stp pin org end equ for rof".split()
 
 
 def filled(lines: list[str], filler: str) -> str:
@@ -32,7 +33,7 @@ def repeated(head: str, unit: str, tail: str) -> str:
 
 def names() -> typing.Iterator[str]:
     """Short names in order, but for those of counters and reserved words."""
-    used = set("wxyz") | set("dat mov add sub mul div mod jmp jmz jmn djn cmp seq sne slt spl nop ldp stp pin org end equ for rof".split())
+    used = {*"wxyz", *RESERVED}
     for size in itertools.count(1):
         for it in map("".join, itertools.product(string.ascii_letters, repeat=size)):
             if it.lower() not in used:
@@ -116,7 +117,13 @@ def slow_sources(copies: int = 4095) -> dict[str, str]:
         "joined EQUs of 126 products of the counter": numbered(z + "x&z EQU 1" + "*z/z" * 126 + "\n",
             "FOR-~*x&z\nROF\n", rof),
         # own: a chain that the counter makes another one in each copy, and counts of the inner one of two counters
-        "a joined chain of 14 EQUs in each count": numbered(times(270) + "".join("%s&z EQU %s&z%s\n" % (it, then, "+0" * 16) for it, then in zip("abcdefghijklmn", "bcdefghijklmno")) + "o&z EQU 0-z\n", "FOR-~+a&z\nROF\n", rof),
+        "a joined chain of 14 EQUs in each count": numbered(
+            times(270)
+            + "".join("%s&z EQU %s&z%s\n" % (*pair, "+0" * 16) for pair in zip("abcdefghijklmn", "bcdefghijklmno"))
+            + "o&z EQU 0-z\n",
+            "FOR-~+a&z\nROF\n",
+            rof,
+        ),
         "counts of the inner counter": numbered("z FOR %d\ny FOR 64\n" % -(-copies // 64) + "DAT 0\n",
                                                 "FOR-~-y*z\nROF\n", "ROF\nROF\n"),
         "counts of a name of 500 bytes": numbered("%s EQU 0\n" % ("n" * 500) + z, "FOR-~-%s\nROF\n" % ("n" * 500), rof),
@@ -147,7 +154,8 @@ def slow_sources(copies: int = 4095) -> dict[str, str]:
         "labels of ROF alone": numbered(z, "FOR 0\n@&z ROF\n", "DAT 0\nROF\n"),
         "512 names of 9,000 labels": z + "".join(it + "&z " for it in first(9000)) + "DAT " + " ".join(it + "&z"
             for it in first(512)) + "\nROF\n",
-        "256 names of 2,000 EQUs in each line": times(2000) + "x&z EQU 1\nROF\n" + times(2000) + "DAT " + "+".join(["x&z"] * 256) + "\nROF\n",
+        "256 names of 2,000 EQUs in each line":
+            times(2000) + "x&z EQU 1\nROF\n" + times(2000) + "DAT " + "+".join(["x&z"] * 256) + "\nROF\n",
         # EQUs
         "EQU bodies of 32,000 tokens": repeated(z + "a&z EQU 1", "+1", "\n" + rof),
         "4,086 lines that an EQU makes 511 long": "x EQU 0" + zero + "\n" + z + "DAT x\nROF\n",

@@ -29,7 +29,7 @@ def next_call(process: int) -> int | None:
 
 
 def start(folder: str, words: list[str]) -> int:
-    """Starts a traced command in a folder, whose output is dropped, and returns its process, stopped before it begins."""
+    """Starts a traced command in a folder, and returns its process, stopped before it begins. Its output is dropped."""
     child = os.fork()
     if child == 0:
         os.chdir(folder)
