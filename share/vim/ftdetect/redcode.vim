@@ -1,0 +1,2 @@
+" The names of files that are Redcode.
+autocmd BufNewFile,BufRead *.red setfiletype redcode
