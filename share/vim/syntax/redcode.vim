@@ -19,7 +19,8 @@ syntax match redcodeSeparator /,/ nextgroup=redcodeOperandMode skipwhite
 syntax match redcodeModifier /\.\s*\(AB\|BA\|A\|B\|F\|X\|I\)\>/ nextgroup=redcodeOperandMode skipwhite
 syntax match redcodeNumber /\d\+/
 
-syntax keyword redcodeOperation DAT MOV ADD SUB MUL DIV MOD JMP JMZ JMN DJN CMP SEQ SNE SLT SPL NOP nextgroup=redcodeOperandMode,redcodeModifier skipwhite
+syntax keyword redcodeOperation DAT MOV ADD SUB MUL DIV MOD JMP JMZ JMN DJN CMP SEQ SNE SLT SPL NOP
+  \ nextgroup=redcodeOperandMode,redcodeModifier skipwhite
 syntax keyword redcodeWord FOR ROF ORG END
 syntax keyword redcodeWord EQU nextgroup=redcodeOperandMode,redcodeModifier skipwhite
 syntax keyword redcodePspace LDP STP PIN
