@@ -30,14 +30,14 @@ body-cut : (equs : EquList) (name : List ℕ) → body_of (cut_equs equs) name �
 body-cut [] name = refl
 body-cut (equ ∷ equs) name = rw (body-cut equs name) (if-cut (bytes_eq name equ.0) equ.1 (body_of equs name))
 
-at-cut : (equs : EquList) (token : Piece) → body_at (cut_equs equs) token ≡ take 513 (body_at equs token)
+pub at-cut : (equs : EquList) (token : Piece) → body_at (cut_equs equs) token ≡ take 513 (body_at equs token)
 at-cut equs token = rw (body-cut equs token.text) (if-cut (is_name token.kind) (body_of equs token.text) [])
 
 some-cut : (ts : List Piece) → has_tokens (take 513 ts) ≡ has_tokens ts
 some-cut [] = refl
 some-cut (t ∷ ts) = refl
 
-has_equ-cut : (equs : EquList) (ts : List Piece) → has_equ (cut_equs equs) ts ≡ has_equ equs ts
+pub has_equ-cut : (equs : EquList) (ts : List Piece) → has_equ (cut_equs equs) ts ≡ has_equ equs ts
 has_equ-cut equs [] = refl
 has_equ-cut equs (t ∷ ts) = rw (at-cut equs t, some-cut (body_at equs t), has_equ-cut equs ts) refl
 
