@@ -1,6 +1,6 @@
 -- The steps of a replacement: those of tokens one after another, and of EQUs whose bodies are cut.
-use Rattle.std.proofs.Common.{◌≡◌, ℕ, zero, suc, ◌+◌, ◌-◌, ◌/◌, ◌≤◌, true, false, List, [], ◌∷◌, ◌++◌, length, take, drop, get_or, ◌<◌, refl, sym, ap, ◌∙◌, arith, append_assoc}
-use Rattle.std.proofs.lemmas.List.{take-take, map-append, drop_more, length-map}
+use Rattle.std.proofs.Common.{◌≡◌, ℕ, zero, suc, ◌+◌, ◌-◌, ◌/◌, ◌≤◌, true, List, [], ◌∷◌, ◌++◌, length, take, drop, get_or, ◌<◌, refl, sym, ap, ◌∙◌, arith, append_assoc}
+use Rattle.std.proofs.lemmas.List.{take-take, map-append, drop_more}
 use Rattle.{redcode_text.specs.{Tokens.{Piece, piece_of, pieces}, declared.token.Token.Token}, redcode_names.specs.{Equ.{EquList, body_at, has_equ}, Cut.{cut_equ, cut_equs, AreKept}, Steps.{token_steps, bodies_in, rounds_steps, replacing_steps}}}
 use Rattle.redcode_names.proofs.Cut.{at-cut, has_equ-cut}
 

@@ -1,5 +1,5 @@
 -- What a token becomes is written, or refused; the others are left.
-use Rattle.std.proofs.Common.{arith, ◌≤◌, ◌+◌, length}
+use Rattle.std.proofs.Common.{arith, ◌+◌}
 use Rattle.{redcode_text.specs.Tokens.pieces, redcode_names.{specs.Steps.rounds_steps, proofs.{Replacing.further, Steps.{body-read, token-read}}}}
 use Rattle.redcode_names.proofs.rounds.+write.Goals as goal
 

@@ -1,5 +1,5 @@
-use Rattle.std.proofs.{lemmas.Grind.common_steps, Common.{arith, ◌≡◌, List, [], ◌∷◌, ◌++◌, take}}
-use Rattle.{redcode_text.specs.Tokens.{Piece, pieces}, redcode_names.{specs.Equ.EquList, proofs.{Lookups.{equs_of, names}, Steps.kept-added}}}
+use Rattle.std.proofs.{lemmas.Grind.common_steps, Common.{arith}}
+use Rattle.{redcode_text.specs.Tokens.{pieces}, redcode_names.{proofs.{Lookups.{equs_of, names}, Steps.kept-added}}}
 use Rattle.redcode_names.proofs.equs.Equs.add.Goals as goal
 
 pub invariant_of-self-2 : goal.invariant_of-self-2
