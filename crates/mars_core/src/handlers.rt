@@ -41,7 +41,7 @@ fn fetched<A: Allocator>(core: &Core<A>, size: Size, pc: u32) -> Word
     core.cell(size, pc)
 }
 
-/// Executes an instruction whose handler is HANDLER. OPERATION is the operation and a modifier under which it does the same.
+/// Executes an instruction whose handler is HANDLER. OPERATION is its operation under a modifier that does the same.
 pub(crate) fn arm<
     const SIDE: u64,
     const HANDLER: u64,

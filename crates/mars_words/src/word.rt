@@ -232,7 +232,7 @@ fn place_of(kind: u64) -> u64
     }
 }
 
-/// The kind that has the handler of a kind: that under the one of the modifiers under which its operation does the same.
+/// The kind that has the handler of a kind: under one of the modifiers under which the operation does the same.
 #[tactic(auto, unfolding(crate::specs::Words::same_kind, crate::specs::Words::same_operation))]
 fn same_kind(kind: u64) -> u64
     requires { kind < 8192 }
