@@ -1,14 +1,14 @@
 //! The lines of a contest: of an opponent, and of all together.
 
-ghost use Rattle.std.specs.Prelude.{◌≡◌, ◌≤◌, ◌++◌, codes, decimal, IfOk, OnOk};
-ghost use Rattle.{koth_text.specs.Columns.padded, koth_json.specs.Contest.contender_parts};
+ghost use Rattle.std.specs.Prelude.{◌≡◌, ◌≤◌, ◌++◌, codes, IfOk, OnOk};
+ghost use Rattle.koth_json.specs.Contest.{contender_parts};
 ghost use Rattle.{koth_text.specs.Tally.points_of, koth_contests.specs.Lines.{contender, contest_line, counts_columns, counts_told, entrant, heading, opponent_columns, opponent_told, sum_line}};
 
 use koth_commands::put_name;
 use koth_json::{Contender, put_match, put_sum};
-use koth_text::cells::number;
-use koth_text::columns::{Alignment, put_padded};
-use koth_text::{Tally, put_number};
+use koth_text::Piece::{Number, Padded, Right, Text};
+use koth_text::columns::Alignment;
+use koth_text::{Tally, put_all};
 use koth_words::View;
 use std::alloc::{AllocError, Allocator};
 use war_types::Warrior;
@@ -73,11 +73,11 @@ pub fn sum_line<A: Allocator>(
     ensures { IfOk result (λ line. line.items ≡ sum_line view (contender_parts mine.entry) count tally) }
 {
     let mut line = Vec::new(alloc);
-    put_all(&mut line, view, mine, count, tally)?;
+    put_together(&mut line, view, mine, count, tally)?;
     Ok(line)
 }
 
-fn put_all<A: Allocator>(
+fn put_together<A: Allocator>(
     line: &mut Vec<u8, A>,
     view: View,
     mine: Contender<'_>,
@@ -154,34 +154,33 @@ fn put_told<A: Allocator>(line: &mut Vec<u8, A>, tally: Tally) -> Result<(), All
     requires { points_of tally ≤ u64.MAX }
     ensures { OnOk result (line.new.items ≡ line.old.items ++ counts_told tally) }
 {
-    put_number(line, tally.won)?;
-    line.extend_from_slice(b" ")?;
-    put_number(line, tally.lost)?;
-    line.extend_from_slice(b" ")?;
-    put_number(line, tally.tied)?;
-    line.extend_from_slice(b" ")?;
-    put_number(line, tally.points())
+    put_all(
+        line,
+        &[
+            Number(tally.won),
+            Text(b" "),
+            Number(tally.lost),
+            Text(b" "),
+            Number(tally.tied),
+            Text(b" "),
+            Number(tally.points()),
+        ],
+    )
 }
 
 fn put_columns<A: Allocator>(line: &mut Vec<u8, A>, tally: Tally) -> Result<(), AllocError>
     requires { points_of tally ≤ u64.MAX }
     ensures { OnOk result (line.new.items ≡ line.old.items ++ counts_columns tally) }
 {
-    put_right(line, 6, tally.won)?;
-    put_right(line, 6, tally.lost)?;
-    put_right(line, 6, tally.tied)?;
-    put_right(line, 8, tally.points())
-}
-
-/// Puts a number at the right end of `places` places.
-pub(crate) fn put_right<A: Allocator>(
-    line: &mut Vec<u8, A>,
-    places: usize,
-    value: u64,
-) -> Result<(), AllocError>
-    ensures { OnOk result (line.new.items ≡ line.old.items ++ padded Alignment.Right places (decimal value)) }
-{
-    put_padded(line, Alignment::Right, places, number(value).as_slice())
+    put_all(
+        line,
+        &[
+            Right(6, tally.won),
+            Right(6, tally.lost),
+            Right(6, tally.tied),
+            Right(8, tally.points()),
+        ],
+    )
 }
 
 /// Puts the name of a warrior, and what its file is called.
@@ -192,9 +191,8 @@ fn put_both_names<A: Allocator>(
 ) -> Result<(), AllocError>
     ensures { OnOk result (line.new.items ≡ line.old.items ++ opponent_columns name.now file.now) }
 {
-    line.extend_from_slice(b"  ")?;
-    put_padded(line, Alignment::Left, 24, name)?;
-    line.extend_from_slice(b"  ")?;
+    let column = Padded(Alignment::Left, 24, name);
+    put_all(line, &[Text(b"  "), column, Text(b"  ")])?;
     put_name(line, file)
 }
 

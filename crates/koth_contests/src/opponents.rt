@@ -156,11 +156,7 @@ fn put_folder<R: Files, A: Allocator + Copy>(
     ensures { OnOk result (PutsFiles folder.now (names_of opponents.old.items) (names_of opponents.new.items)) }
 {
     match names_in(rt, alloc, folder) {
-        Ok(names) => {
-            let mut found = sources_among(alloc, names.as_slice())?;
-            found.sort()?;
-            put_found(alloc, opponents, folder, found.as_slice())
-        }
+        Ok(names) => put_sources(alloc, opponents, folder, names.as_slice()),
         Err(Reason::Memory) => Err(AllocError),
         Err(reason) => put_alone(alloc, opponents, folder, Place::Nowhere(reason)),
     }
@@ -172,25 +168,52 @@ fn names_in<R: Files, A: Allocator + Copy>(
     alloc: A,
     folder: &str,
 ) -> Result<Vec<u8, A>, Reason> {
+    // A slash at the end follows a link to a folder.
+    match path_in(alloc, folder, "") {
+        Ok(path) => names_at(rt, alloc, path.as_str()),
+        Err(AllocError) => Err(Reason::Memory),
+    }
+}
+
+/// The names in the folder of this path, each with a zero after it.
+fn names_at<R: Files, A: Allocator>(rt: &R, alloc: A, path: &str) -> Result<Vec<u8, A>, Reason> {
     let Ok(mut names) = Vec::from_elem(alloc, 0, NAMES_LIMIT) else {
         return Err(Reason::Memory);
     };
-    // A slash at the end follows a link to a folder.
-    let Ok(path) = path_in(alloc, folder, "") else {
-        return Err(Reason::Memory);
-    };
-    let mut open = match rt.open_dir(path.as_str()) {
-        Ok(open) => open,
-        Err(error) => return Err(reason_of(error.kind())),
-    };
-    match fill(&mut open, names.as_mut_slice()) {
-        Ok(count) if count < NAMES_LIMIT => {
+    match read_names(rt, path, names.as_mut_slice()) {
+        Ok(count) => {
             names.truncate(count);
             Ok(names)
         }
+        Err(reason) => Err(reason),
+    }
+}
+
+/// Reads the names in the folder of this path. How many bytes they have is the answer, which is less than there is room for.
+fn read_names<R: Files>(rt: &R, path: &str, names: &mut [u8]) -> Result<usize, Reason> {
+    let mut open = match rt.open_dir(path) {
+        Ok(open) => open,
+        Err(error) => return Err(reason_of(error.kind())),
+    };
+    match fill(&mut open, names) {
+        Ok(count) if count < NAMES_LIMIT => Ok(count),
         Ok(_) => Err(Reason::Size),
         Err(fault) => Err(fault.reason),
     }
+}
+
+/// Puts the sources among these names in a folder, in the order of their bytes.
+fn put_sources<A: Allocator + Copy>(
+    alloc: A,
+    opponents: &mut Vec<Opponent<A>, A>,
+    folder: &str,
+    names: &[u8],
+) -> Result<(), AllocError>
+    ensures { OnOk result (PutsFiles folder.now (names_of opponents.old.items) (names_of opponents.new.items)) }
+{
+    let mut found = sources_among(alloc, names)?;
+    found.sort()?;
+    put_found(alloc, opponents, folder, found.as_slice())
 }
 
 /// The names that end with `.red` and don't begin with a point.

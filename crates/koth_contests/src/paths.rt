@@ -35,15 +35,18 @@ fn joined<A: Allocator + Copy>(
 pub(crate) fn shown_bytes<A: Allocator>(alloc: A, bytes: &[u8]) -> Result<String<A>, AllocError> {
     let mut text = String::new(alloc);
     for byte in bytes {
-        if byte.is_ascii() {
-            text.push(char::from(*byte))?;
-        } else {
-            text.push_str("\\x")?;
-            text.push(hex_digit(byte / 16))?;
-            text.push(hex_digit(byte % 16))?;
-        }
+        put_shown(&mut text, *byte)?;
     }
     Ok(text)
+}
+
+fn put_shown<A: Allocator>(text: &mut String<A>, byte: u8) -> Result<(), AllocError> {
+    if byte.is_ascii() {
+        return text.push(char::from(byte));
+    }
+    text.push_str("\\x")?;
+    text.push(hex_digit(byte / 16))?;
+    text.push(hex_digit(byte % 16))
 }
 
 /// A digit in base 16.

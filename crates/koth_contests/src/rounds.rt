@@ -1,14 +1,14 @@
 //! The rounds of a match, one after the other: how each went, and the first that ended in some way.
 
-ghost use Rattle.std.specs.Prelude.{◌≡◌, ◌++◌, IfOk, OnOk};
+ghost use Rattle.std.specs.{Prelude.{◌≡◌, ◌++◌, IfOk, OnOk}, List.flat_map};
 ghost use Rattle.war_types.specs.Warrior.{Fits};
-ghost use Rattle.koth_contests.specs.Rounds.{ends_columns, ends_told, outcome_name, round_columns, round_line, round_of, round_told, rounds_heading, side_name, IsEach, IsFirst};
+ghost use Rattle.koth_contests.specs.Rounds.{ends_columns, ends_told, outcome_name, round_columns, round_line, round_of, round_told, rounds_before, rounds_heading, side_name, IsEach, IsFirst};
 
-use crate::lines::put_right;
 use koth_json::Round;
 use koth_match::{first_in, position, seed_of_round};
-use koth_text::columns::{Alignment, put_padded};
-use koth_text::put_number;
+use koth_text::Piece::{Number, Padded, Right, Text};
+use koth_text::columns::Alignment;
+use koth_text::put_all;
 use koth_words::View;
 use mars_core::{Arena, Outcome, Side};
 use std::alloc::{AllocError, Allocator};
@@ -73,12 +73,31 @@ pub fn rounds_text<A: Allocator + Copy, B: Allocator, C: Allocator>(
 {
     let mut arena = Arena::new(alloc, settings)?;
     let mut text = Vec::new(alloc);
+    put_rounds(&mut text, &mut arena, settings, older, younger, view)?;
+    Ok(text)
+}
+
+/// Plays a match, and puts its lines.
+fn put_rounds<A: Allocator, B: Allocator, C: Allocator>(
+    text: &mut Vec<u8, A>,
+    arena: &mut Arena<A>,
+    settings: &Settings,
+    older: &Warrior<B>,
+    younger: &Warrior<C>,
+    view: View,
+) -> Result<(), AllocError>
+    requires settings { arena.old.settings ≡ settings.now }
+    requires older { Fits settings.now older.now }
+    requires younger { Fits settings.now younger.now }
+    ensures { OnOk result (text.new.items ≡ text.old.items
+        ++ (rounds_heading view ++ flat_map (round_line view) (rounds_before settings.now older.now younger.now settings.now.rounds))) }
+{
     text.extend_from_slice(rounds_heading(view).as_bytes())?;
     for round in 0..settings.rounds() {
-        let played = round_of(&mut arena, older, younger, settings, round);
-        put_round(&mut text, view, played)?;
+        let played = round_of(arena, older, younger, settings, round);
+        put_round(text, view, played)?;
     }
-    Ok(text)
+    Ok(())
 }
 
 /// The number of the first round of a match that ends like this, counted from 0. No memory is taken.
@@ -146,45 +165,42 @@ fn put_object<A: Allocator>(text: &mut Vec<u8, A>, played: Played) -> Result<(),
 fn put_told<A: Allocator>(text: &mut Vec<u8, A>, played: Played) -> Result<(), AllocError>
     ensures { OnOk result (text.new.items ≡ text.old.items ++ round_told played) }
 {
-    put_number(text, u64::from(played.number))?;
-    text.extend_from_slice(b" ")?;
-    put_number(text, u64::from(played.seed))?;
-    text.extend_from_slice(b" ")?;
-    put_number(text, u64::from(played.position))?;
-    text.extend_from_slice(b" ")?;
-    put_ends(text, played)
-}
-
-/// Puts who moved first, who won, and the turns.
-fn put_ends<A: Allocator>(text: &mut Vec<u8, A>, played: Played) -> Result<(), AllocError>
-    ensures { OnOk result (text.new.items ≡ text.old.items ++ ends_told played) }
-{
-    text.extend_from_slice(side_name(played.first).as_bytes())?;
-    text.extend_from_slice(b" ")?;
-    text.extend_from_slice(outcome_name(played.outcome).as_bytes())?;
-    text.extend_from_slice(b" ")?;
-    put_number(text, u64::from(played.turns))?;
-    text.extend_from_slice(b"\n")
+    put_all(
+        text,
+        &[
+            Number(u64::from(played.number)),
+            Text(b" "),
+            Number(u64::from(played.seed)),
+            Text(b" "),
+            Number(u64::from(played.position)),
+            Text(b" "),
+            Text(side_name(played.first).as_bytes()),
+            Text(b" "),
+            Text(outcome_name(played.outcome).as_bytes()),
+            Text(b" "),
+            Number(u64::from(played.turns)),
+            Text(b"\n"),
+        ],
+    )
 }
 
 fn put_columns<A: Allocator>(text: &mut Vec<u8, A>, played: Played) -> Result<(), AllocError>
     ensures { OnOk result (text.new.items ≡ text.old.items ++ round_columns played) }
 {
-    put_right(text, 5, u64::from(played.number))?;
-    put_right(text, 12, u64::from(played.seed))?;
-    put_right(text, 10, u64::from(played.position))?;
-    put_ends_columns(text, played)
-}
-
-fn put_ends_columns<A: Allocator>(text: &mut Vec<u8, A>, played: Played) -> Result<(), AllocError>
-    ensures { OnOk result (text.new.items ≡ text.old.items ++ ends_columns played) }
-{
     let first = side_name(played.first).as_bytes();
-    put_padded(text, Alignment::Right, 7, first)?;
     let outcome = outcome_name(played.outcome).as_bytes();
-    put_padded(text, Alignment::Right, 6, outcome)?;
-    put_right(text, 9, u64::from(played.turns))?;
-    text.extend_from_slice(b"\n")
+    put_all(
+        text,
+        &[
+            Right(5, u64::from(played.number)),
+            Right(12, u64::from(played.seed)),
+            Right(10, u64::from(played.position)),
+            Padded(Alignment::Right, 7, first),
+            Padded(Alignment::Right, 6, outcome),
+            Right(9, u64::from(played.turns)),
+            Text(b"\n"),
+        ],
+    )
 }
 
 /// A side as the command line has it.

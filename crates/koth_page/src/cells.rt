@@ -3,7 +3,8 @@
 ghost use Rattle.std.specs.Prelude.{◌≡◌, ◌+◌, ◌≤◌, ◌++◌, length, codes, decimal, OnOk};
 ghost use Rattle.koth_page.specs.Cells.{name_cell, number_cell, number_cells};
 
-use koth_text::{Line, put_escaped, put_line};
+use koth_text::Piece::{Escaped, Text};
+use koth_text::{Line, put_all, put_line};
 use std::alloc::{AllocError, Allocator};
 
 #[tactic(auto, unfolding(crate::specs::Cells::number_cell))]
@@ -29,14 +30,15 @@ pub(crate) fn put_number_cells<A: Allocator>(
     Ok(())
 }
 
+#[tactic(auto, unfolding(crate::specs::Cells::name_cell))]
 pub(crate) fn put_name_cell<A: Allocator>(
     page: &mut Vec<u8, A>,
     name: &[u8],
 ) -> Result<(), AllocError>
     ensures { OnOk result (page.new.items ≡ page.old.items ++ name_cell name.now) }
 {
-    page.extend_from_slice(b"<td class=\"name\">")?;
-    put_escaped(page, name)?;
-    page.extend_from_slice(b"</td>")?;
-    Ok(())
+    put_all(
+        page,
+        &[Text(b"<td class=\"name\">"), Escaped(name), Text(b"</td>")],
+    )
 }

@@ -8,7 +8,8 @@ use crate::cells::{number_cell, put_name_cell};
 use crate::links::Links;
 use crate::parts::{MATCHES_START, TABLE_END};
 use koth_hill::{Hill, Row};
-use koth_text::{Line, Tally, put_escaped, put_line, put_number};
+use koth_text::Piece::{Escaped, Number, Text};
+use koth_text::{Line, Tally, put_all, put_line};
 use koth_views::between;
 use std::alloc::{AllocError, Allocator};
 
@@ -50,6 +51,7 @@ fn put_rank_headings<A: Allocator>(
 }
 
 /// Puts the heading of the column of a rank, which names the warrior.
+#[tactic(auto, unfolding(crate::specs::Matches::rank_heading))]
 fn put_rank_heading<A: Allocator>(
     page: &mut Vec<u8, A>,
     rank: u64,
@@ -57,12 +59,16 @@ fn put_rank_heading<A: Allocator>(
 ) -> Result<(), AllocError>
     ensures { OnOk result (page.new.items ≡ page.old.items ++ rank_heading rank (row_parts row.now)) }
 {
-    page.extend_from_slice(b"<th title=\"")?;
-    put_escaped(page, row.name.bytes())?;
-    page.extend_from_slice(b"\">")?;
-    put_number(page, rank)?;
-    page.extend_from_slice(b"</th>")?;
-    Ok(())
+    put_all(
+        page,
+        &[
+            Text(b"<th title=\""),
+            Escaped(row.name.bytes()),
+            Text(b"\">"),
+            Number(rank),
+            Text(b"</th>"),
+        ],
+    )
 }
 
 fn put_rows<A: Allocator, B: Allocator>(
@@ -188,16 +194,21 @@ fn link_start(older: u64, younger: u64) -> Line
 
 /// Puts who fought whom.
 #[tactic(auto, unfolding(crate::specs::Matches::sides_text))]
-fn put_sides<A: Allocator>(
+fn put_sides<'r, A: Allocator>(
     page: &mut Vec<u8, A>,
-    row: &Row<'_>,
-    other: &Row<'_>,
+    row: &'r Row<'r>,
+    other: &'r Row<'r>,
 ) -> Result<(), AllocError>
     ensures { OnOk result (page.new.items ≡ page.old.items ++ sides_text (row_parts row.now) (row_parts other.now)) }
 {
-    put_escaped(page, row.name.bytes())?;
-    page.extend_from_slice(b" against ")?;
-    put_escaped(page, other.name.bytes())
+    put_all(
+        page,
+        &[
+            Escaped(row.name.bytes()),
+            Text(b" against "),
+            Escaped(other.name.bytes()),
+        ],
+    )
 }
 
 #[tactic(auto, unfolding(crate::specs::Matches::rounds_text))]

@@ -1,9 +1,10 @@
 //! The settings of a hill.
 
-ghost use Rattle.std.specs.Prelude.{◌≡◌, ◌+◌, ◌≤◌, ◌++◌, length, codes, decimal, OnOk};
+ghost use Rattle.std.specs.Prelude.{◌≡◌, ◌++◌, codes, OnOk};
 ghost use Rattle.koth_page.specs.Settings.{machine_text, rules_text, setting_text, settings_text};
 
-use koth_text::{Line, put_line};
+use koth_text::Piece::{Number, Text};
+use koth_text::put_all;
 use std::alloc::{AllocError, Allocator};
 use war_types::Settings;
 
@@ -50,17 +51,14 @@ fn put_setting<A: Allocator>(
 ) -> Result<(), AllocError>
     ensures { OnOk result (page.new.items ≡ page.old.items ++ setting_text name.now number) }
 {
-    page.extend_from_slice(b"<div><dt>")?;
-    page.extend_from_slice(name)?;
-    put_line(page, setting_end(number))
-}
-
-fn setting_end(number: u64) -> Line
-    ensures { result ≡ codes "</dt><dd>" ++ decimal number ++ codes "</dd></div>\n" }
-{
-    let mut line = Line::new();
-    line.put(b"</dt><dd>");
-    line.put_number(number);
-    line.put(b"</dd></div>\n");
-    line
+    put_all(
+        page,
+        &[
+            Text(b"<div><dt>"),
+            Text(name),
+            Text(b"</dt><dd>"),
+            Number(number),
+            Text(b"</dd></div>\n"),
+        ],
+    )
 }

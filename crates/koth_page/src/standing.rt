@@ -6,7 +6,8 @@ ghost use Rattle.{koth_hill.specs.Rows.{row_parts, rows_parts}, koth_views.specs
 use crate::cells::{put_name_cell, put_number_cells};
 use crate::parts::{STANDING_START, TABLE_END};
 use koth_hill::{Hill, Row};
-use koth_text::Tally;
+use koth_text::Piece::Text;
+use koth_text::{Tally, put_all};
 use koth_views::against_all;
 use std::alloc::{AllocError, Allocator};
 
@@ -29,10 +30,13 @@ pub(crate) fn put_standing<A: Allocator, B: Allocator>(
 fn put_heading<A: Allocator>(page: &mut Vec<u8, A>) -> Result<(), AllocError>
     ensures { OnOk result (page.new.items ≡ page.old.items ++ standing_heading) }
 {
-    page.extend_from_slice(b"<thead><tr><th>rank</th><th>entry</th><th>points</th>")?;
-    page.extend_from_slice(b"<th>won</th><th>lost</th><th>tied</th><th>age</th>")?;
-    page.extend_from_slice(
-        b"<th class=\"name\">warrior</th><th class=\"name\">author</th></tr></thead>\n",
+    put_all(
+        page,
+        &[
+            Text(b"<thead><tr><th>rank</th><th>entry</th><th>points</th>"),
+            Text(b"<th>won</th><th>lost</th><th>tied</th><th>age</th>"),
+            Text(b"<th class=\"name\">warrior</th><th class=\"name\">author</th></tr></thead>\n"),
+        ],
     )
 }
 

@@ -1,7 +1,7 @@
 -- Small texts, computed.
 use Rattle.{std.proofs.Common.{◌≡◌, [], ◌∷◌, ◌++◌, codes, refl}, std.specs.{Char.encode_utf8, Fmt.digits, Str.{chars, is_utf8}, Str.Lossy.{utf8_error_len, utf8_lossy, utf8_valid_len}}}
 use Rattle.war_types.specs.{Warrior.warrior_parts, declared.fault.AsmKind.AsmKind, declared.fault.ExprFault.ExprFault}
-use Rattle.koth_text.specs.{Bout.bout_view, Columns.{columns_text, table_text}, Escape.escaped, Refusal.refusal_line, declared.columns.Alignment.Alignment}
+use Rattle.koth_text.specs.{Bout.bout_view, Columns.{columns_text, table_text}, Escape.escaped, Pieces.pieces_text, Refusal.refusal_line, declared.{columns.Alignment.Alignment, pieces.Piece.Piece}}
 
 no_line_to_blame : refusal_line (record { line = 0; kind = AsmKind.Empty }) ≡ codes "REFUSED 0 Empty\n"
 unfolding digits
@@ -29,6 +29,11 @@ columns = refl
 -- no headings over an empty table
 no_headings : table_text (Alignment.Left ∷ []) ((codes "a" ∷ []) ∷ []) ≡ []
 no_headings = refl
+
+-- a number after another one, in a field that it fits into, and in one that it doesn't
+pieces : pieces_text (Piece.Number 7 ∷ Piece.Right 4 12 ∷ Piece.Right 1 345 ∷ []) ≡ codes "7  12345"
+unfolding digits
+pieces = refl
 
 counts : bout_view (warrior_parts [] 0 (codes "Imp") (codes "A. K. Dewdney")) (warrior_parts [] 0 (codes "Scanner") (codes "koth")) (record { older_wins = 1; younger_wins = 9; ties = 0 })
     ≡ codes "won  lost  tied  points  warrior  author\n"

@@ -6,5 +6,6 @@ pub mod Escape
 pub mod Characters
 -- Rows of cells, laid out in columns, and the counts of one match.
 pub mod Columns
+pub mod Pieces
 pub mod Tally
 pub mod Bout

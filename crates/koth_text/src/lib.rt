@@ -8,6 +8,7 @@
 //! - `lines` and `escape`: lines and numbers, and what others wrote, as they stand in a text or a page;
 //! - `tally`: rounds from the side of one warrior;
 //! - `cells` and `columns`: rows of cells, and how they are laid out;
+//! - `pieces`: a text as a list of its pieces;
 //! - `counts`: the counts of one match, in headings and columns.
 //!
 //! Each text is exactly what its definition in `specs` says. Whatever a text holds, `escape` puts no character that begins or
@@ -20,6 +21,7 @@ pub mod counts;
 mod escape;
 mod line;
 mod lines;
+mod pieces;
 mod refusal;
 mod tally;
 mod uninterrupted;
@@ -28,6 +30,7 @@ pub use counts::bout_view;
 pub use escape::put_escaped;
 pub use line::Line;
 pub use lines::{put_line, put_number};
+pub use pieces::{Piece, put_all};
 pub use refusal::refusal_line;
 pub use tally::Tally;
 pub use uninterrupted::{read_uninterrupted, write_uninterrupted};

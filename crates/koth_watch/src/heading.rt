@@ -1,28 +1,33 @@
 //! What a page says of its round in words.
 
 ghost use Rattle.std.specs.Prelude.{◌≡◌, ◌+◌, ◌≤◌, ◌++◌, length, codes, decimal, OnOk};
-ghost use Rattle.koth_text.specs.Escape.{escaped};
 ghost use Rattle.koth_watch.specs.Heading.{cut_told, ending_text, outcome_text, round_told, sides_text, turns_told, warrior_text, warriors_text, whole_told, winner_text};
 
 use crate::parts::{OLDER_START, WARRIORS_END, YOUNGER_START};
 use koth_replay::Replay;
-use koth_text::{Line, put_escaped, put_line};
+use koth_text::Piece::{Escaped, Text};
+use koth_text::{Line, put_all, put_line};
 use mars_core::Outcome;
 use std::alloc::{AllocError, Allocator};
-use war_types::{Title, Warrior};
+use war_types::Warrior;
 
 /// Puts who fights whom.
 #[tactic(auto, unfolding(crate::specs::Heading::sides_text))]
-pub(crate) fn put_sides<A: Allocator, B: Allocator, C: Allocator>(
+pub(crate) fn put_sides<'w, A: Allocator, B: Allocator, C: Allocator>(
     page: &mut Vec<u8, A>,
-    older: &Warrior<B>,
-    younger: &Warrior<C>,
+    older: &'w Warrior<B>,
+    younger: &'w Warrior<C>,
 ) -> Result<(), AllocError>
     ensures { OnOk result (page.new.items ≡ page.old.items ++ sides_text older.now younger.now) }
 {
-    put_title(page, older.name())?;
-    page.extend_from_slice(b" against ")?;
-    put_title(page, younger.name())
+    put_all(
+        page,
+        &[
+            Escaped(older.name().bytes()),
+            Text(b" against "),
+            Escaped(younger.name().bytes()),
+        ],
+    )
 }
 
 /// Puts which round it is, counted from 0, and how it ended.
@@ -76,8 +81,7 @@ fn put_winner<A: Allocator, B: Allocator>(
 ) -> Result<(), AllocError>
     ensures { OnOk result (page.new.items ≡ page.old.items ++ winner_text warrior.now) }
 {
-    put_title(page, warrior.name())?;
-    page.extend_from_slice(b" won")
+    put_all(page, &[Escaped(warrior.name().bytes()), Text(b" won")])
 }
 
 /// How many turns there are, or how many of them the page has.
@@ -121,13 +125,12 @@ fn put_warrior<A: Allocator, B: Allocator>(
 ) -> Result<(), AllocError>
     ensures { OnOk result (page.new.items ≡ page.old.items ++ warrior_text warrior.now) }
 {
-    put_title(page, warrior.name())?;
-    page.extend_from_slice(b"</b> by ")?;
-    put_title(page, warrior.author())
-}
-
-fn put_title<A: Allocator>(page: &mut Vec<u8, A>, title: &Title) -> Result<(), AllocError>
-    ensures { OnOk result (page.new.items ≡ page.old.items ++ escaped title.now) }
-{
-    put_escaped(page, title.bytes())
+    put_all(
+        page,
+        &[
+            Escaped(warrior.name().bytes()),
+            Text(b"</b> by "),
+            Escaped(warrior.author().bytes()),
+        ],
+    )
 }

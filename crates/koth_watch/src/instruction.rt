@@ -3,7 +3,8 @@
 ghost use Rattle.std.specs.Prelude.{◌≡◌, ◌++◌, codes, decimal, OnOk};
 ghost use Rattle.koth_watch.specs.Instruction.{instruction_text, number_text, operand_text, sign_text};
 
-use koth_text::put_number;
+use koth_text::Piece::Text;
+use koth_text::{put_all, put_number};
 use redcode_text::{mode_text, modifier_text, op_text};
 use std::alloc::{AllocError, Allocator};
 use war_types::{Instr, Mode};
@@ -17,10 +18,9 @@ pub(crate) fn put_instruction<A: Allocator>(
 ) -> Result<(), AllocError>
     ensures { OnOk result (page.new.items ≡ page.old.items ++ instruction_text core instr) }
 {
-    page.extend_from_slice(op_text(instr.op).as_bytes())?;
-    page.extend_from_slice(b".")?;
-    page.extend_from_slice(modifier_text(instr.modifier).as_bytes())?;
-    page.extend_from_slice(b" ")?;
+    let op = op_text(instr.op).as_bytes();
+    let modifier = modifier_text(instr.modifier).as_bytes();
+    put_all(page, &[Text(op), Text(b"."), Text(modifier), Text(b" ")])?;
     put_operand(page, core, instr.a_mode, instr.a)?;
     page.extend_from_slice(b", ")?;
     put_operand(page, core, instr.b_mode, instr.b)

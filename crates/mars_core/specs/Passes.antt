@@ -15,6 +15,10 @@ pub record IsAt (size : ℕ) (core : List Instr) (pc : ℕ) (i : Instr) : Type 0
 abbrev pub parts_of : ℕ → ℕ × ℕ × ℕ
 parts_of kind = (kind / 64, kind / 8 % 8, kind % 8)
 
+-- the A mode and the B mode of a pair of modes
+abbrev pub modes_of : ℕ → ℕ × ℕ
+modes_of pair = (pair / 8, pair % 8)
+
 -- the process at pc was executed without limits: the core that it left, and what it queued
 pub record IsExecuted (size : ℕ) (core core' : List Instr) (pc : ℕ) (more : List ℕ) : Type 0 where
   pub value : executed (whole size) core pc ≡ queues core' more

@@ -2,10 +2,11 @@
 //!
 //! A round passes through the modules in this order. `arena` owns the core and both queues. It loads two warriors
 //! (`load`) into the cells, and makes turns: without limits by the loop in `pass`, which finds the code of an
-//! instruction's kind in `handlers`, else, and single ones, by the loop in `turn`. A turn takes a process from its
-//! queue, in `pass` from a `window` before it; its instruction has its `execution`, by operands that `limits`
-//! evaluates, those without limits too. `round` has the types. `touchable` lists the cells that a turn may change.
-//! `laws` is a law of the definitions. Cells, queues, operands without limits and operations are in the crate
+//! instruction's kind by `handled`, or else by `modes` and `operations`; all of that code is in `handlers`, by the
+//! constants of `kinds`. Turns with limits, and single ones, are made by the loop in `turn`. A turn takes a process
+//! from its queue, in `pass` from a `window` before it. In `turn` the instruction has its `execution`, by operands that
+//! `limits` evaluates, those without limits too. `round` has the types. `touchable` lists the cells that a turn may
+//! change. `laws` is a law of the definitions. Cells, queues, operands without limits and operations are in the crate
 //! `mars_operations`; words, the pairs of a modifier, and sums and differences in a core are in `mars_words`.
 //!
 //! The main clauses: `begin` makes the round `opening`, `turn` the round `after_turn`, and `play` plays on until the
@@ -18,10 +19,14 @@
 
 mod arena;
 mod execution;
+mod handled;
 mod handlers;
+mod kinds;
 mod laws;
 mod limits;
 mod load;
+mod modes;
+mod operations;
 mod pass;
 mod round;
 mod touchable;

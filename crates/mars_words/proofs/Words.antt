@@ -4,7 +4,7 @@ use Rattle.std.proofs.{Common.arith, lemmas.Nat.{and_comm, and_mask, and-not, or
 use Rattle.std.proofs.{lemmas.Bool.agree_below_at, lemmas.Bool.Decides.{same_from_decides, Decides-eqb, Decides-and, Decides-like}}
 use Rattle.war_types.specs.{declared.instr.Op.Op, declared.instr.Modifier.Modifier, declared.instr.Mode.Mode, declared.instr.Instr.Instr, Bytes.{op_code, modifier_code, mode_code}}
 use Rattle.mars_words.proofs.Places.{handler-below}
-use Rattle.mars_words.specs.{Numbers.{Field, with_number}, Equal.are_equal, Words.{Word, mark, kind_code, handler_at, handler_of, bits_of, word_in, IsWord, mode_at, modifier_at, op_at, is_plain}}
+use Rattle.mars_words.specs.{Numbers.{Field, with_number}, Equal.are_equal, Words.{Word, mark, kind_code, operation_code, modes_code, handler_at, handler_of, bits_of, word_in, IsWord, mode_at, modifier_at, op_at, is_plain}}
 
 -- ---- codes
 
@@ -22,7 +22,7 @@ op_is_read op = (refl, omega arith)
 
 -- the operation with the number of the handler above it
 abbrev head : Instr → ℕ
-head i = op_code i.op + handler_of i * 2 ^ 14
+head i = op_code i.op + handler_of i * 2 ^ 16
 
 head_is_read : (i : Instr) → (op_at (head i % 16) ≡ i.op) × (head i < 2 ^ 22)
 head_is_read i =
@@ -48,7 +48,7 @@ record HasParts (n p q r s t u v : ℕ) : Type 0 where
   pub a_mode : n / 2 ^ 35 % 8 ≡ s
   pub modifier : n / 2 ^ 38 % 8 ≡ t
   pub op : n / 2 ^ 41 % 16 ≡ u % 16
-  pub handler : n / 2 ^ 55 % 256 ≡ u / 2 ^ 14
+  pub handler : n / 2 ^ 57 % 64 ≡ u / 2 ^ 16
   pub marked : n / 2 ^ 63 ≡ v
 
 parts_are_read : (b a c d e f g : ℕ) → b < 2 ^ 16 → a < 2 ^ 16 → c < 8 → d < 8 → e < 8 → f < 2 ^ 22 → g < 2 → HasParts (sum_of_parts b a c d e f g) b a c d e f g
@@ -93,14 +93,32 @@ IsWord-below n is =
     let w : Word = word_in n in
     sum-below n _ _ _ _ _ _ _ (omega arith) (omega arith) (mode_is_read w.instr.b_mode).1 (mode_is_read w.instr.a_mode).1 (modifier_is_read w.instr.modifier).1 (head_is_read w.instr).1 (mark_is_read w.is_marked).1 is
 
-sum-handler : (n b a c d e o h g : ℕ) → b < 2 ^ 16 → a < 2 ^ 16 → c < 8 → d < 8 → e < 8 → o < 16 → h < 128 → sum_of_parts b a c d e (o + h * 2 ^ 14) g ≡ n → n / 2 ^ 55 % 128 ≡ h
+sum-handler : (n b a c d e o h g : ℕ) → b < 2 ^ 16 → a < 2 ^ 16 → c < 8 → d < 8 → e < 8 → o < 16 → h < 64 → sum_of_parts b a c d e (o + h * 2 ^ 16) g ≡ n → n / 2 ^ 57 % 64 ≡ h
 sum-handler n b a c d e o h g hb ha hc hd he ho hh is = omega arith
 
-pub handler_is_read : (n : ℕ) (w : Word) → IsWord n → word_in n ≡ w → n / 2 ^ 55 % 128 ≡ handler_of w.instr
+pub handler_is_read : (n : ℕ) (w : Word) → IsWord n → word_in n ≡ w → n / 2 ^ 57 % 64 ≡ handler_of w.instr
 handler_is_read n w is e =
     let i : Instr = (word_in n).instr in
     sum-handler n _ _ _ _ _ _ _ _ (omega arith) (omega arith) (mode_is_read i.b_mode).1 (mode_is_read i.a_mode).1 (modifier_is_read i.modifier).1 (op_is_read i.op).1 (handler-below i) is
     ∙ ap (λ (w : Word). handler_of w.instr) e
+
+sum-operation : (n b a c d e o h g : ℕ) → b < 2 ^ 16 → a < 2 ^ 16 → c < 8 → d < 8 → e < 8 → o < 16 → sum_of_parts b a c d e (o + h * 2 ^ 16) g ≡ n → n / 2 ^ 38 % 128 ≡ e + o * 8
+sum-operation n b a c d e o h g hb ha hc hd he ho is = omega arith
+
+pub operation_is_read : (n : ℕ) (w : Word) → IsWord n → word_in n ≡ w → n / 2 ^ 38 % 128 ≡ operation_code w.instr
+operation_is_read n w is e =
+    let i : Instr = (word_in n).instr in
+    sum-operation n _ _ _ _ _ _ _ _ (omega arith) (omega arith) (mode_is_read i.b_mode).1 (mode_is_read i.a_mode).1 (modifier_is_read i.modifier).1 (op_is_read i.op).1 is
+    ∙ ap (λ (w : Word). operation_code w.instr) e
+
+sum-modes : (n b a c d e f g : ℕ) → b < 2 ^ 16 → a < 2 ^ 16 → c < 8 → d < 8 → sum_of_parts b a c d e f g ≡ n → n / 2 ^ 32 % 64 ≡ c + d * 8
+sum-modes n b a c d e f g hb ha hc hd is = omega arith
+
+pub modes_are_read : (n : ℕ) (w : Word) → IsWord n → word_in n ≡ w → n / 2 ^ 32 % 64 ≡ modes_code w.instr
+modes_are_read n w is e =
+    let i : Instr = (word_in n).instr in
+    sum-modes n _ _ _ _ _ _ _ (omega arith) (omega arith) (mode_is_read i.b_mode).1 (mode_is_read i.a_mode).1 is
+    ∙ ap (λ (w : Word). modes_code w.instr) e
 
 -- ---- a part put above others
 
@@ -110,16 +128,16 @@ or_is_sum low part k j below small inside =
     ap (bit_or low) (shl_whole part j k 64 small inside) ∙ or_comm low (part * 2 ^ k) ∙ omega (arith, sum)
 
 abbrev pub packed : ℕ → ℕ → ℕ → ℕ → ℕ
-packed b a kind handler = bit_or (bit_or (bit_or b (a * 2 ^ 16 % 2 ^ 64)) (kind * 2 ^ 32 % 2 ^ 64)) (handler * 2 ^ 55 % 2 ^ 64)
+packed b a kind handler = bit_or (bit_or (bit_or b (a * 2 ^ 16 % 2 ^ 64)) (kind * 2 ^ 32 % 2 ^ 64)) (handler * 2 ^ 57 % 2 ^ 64)
 
-packed_is_sum : (b a k h : ℕ) → b < 2 ^ 16 → a < 2 ^ 16 → k < 2 ^ 13 → h < 2 ^ 8 → packed b a k h ≡ b + a * 2 ^ 16 + k * 2 ^ 32 + h * 2 ^ 55
+packed_is_sum : (b a k h : ℕ) → b < 2 ^ 16 → a < 2 ^ 16 → k < 2 ^ 13 → h < 2 ^ 6 → packed b a k h ≡ b + a * 2 ^ 16 + k * 2 ^ 32 + h * 2 ^ 57
 packed_is_sum b a k h hb ha hk hh =
     let with_a : ℕ = b + a * 2 ^ 16 in
     let with_k : ℕ = with_a + k * 2 ^ 32 in
     let put : (low part : ℕ) → ℕ → ℕ = λ low part k. bit_or low (part * 2 ^ k % 2 ^ 64) in
-    ap (λ (x : ℕ). put (put x k 32) h 55) (or_is_sum b a 16 16 hb ha (omega arith))
-    ∙ ap (λ (x : ℕ). put x h 55) (or_is_sum with_a k 32 13 (omega arith) hk (omega arith))
-    ∙ or_is_sum with_k h 55 8 (omega arith) hh (omega arith)
+    ap (λ (x : ℕ). put (put x k 32) h 57) (or_is_sum b a 16 16 hb ha (omega arith))
+    ∙ ap (λ (x : ℕ). put x h 57) (or_is_sum with_a k 32 13 (omega arith) hk (omega arith))
+    ∙ or_is_sum with_k h 57 6 (omega arith) hh (omega arith)
 
 pub kind-small : (i : Instr) → kind_code i < 8192
 kind-small i = omega (arith, (mode_is_read i.b_mode).1, (mode_is_read i.a_mode).1, (modifier_is_read i.modifier).1, (op_is_read i.op).1)
@@ -130,7 +148,7 @@ unmarked i = record { instr = i; is_marked = false }
 pub IsWordOf-packed : (i : Instr) (b a k h : ℕ) → b ≡ i.b → a ≡ i.a → k ≡ kind_code i → h ≡ handler_at k → b ≤ 65535 → a ≤ 65535 → IsWordOf (unmarked i) (packed b a k h)
 IsWordOf-packed i b a k h b_is a_is k_is h_is hb ha =
     let handler : h ≡ handler_of i = h_is ∙ ap handler_at k_is in
-    let small : h < 2 ^ 8 = omega (arith, handler-below i, handler) in
+    let small : h < 2 ^ 6 = omega (arith, handler-below i, handler) in
     IsWordOf-bits _ (unmarked i) (omega arith) (omega arith)
     (packed_is_sum b a k h (omega arith) (omega arith) (omega (arith, kind-small i, k_is)) small ∙ omega (arith, b_is, a_is, k_is, handler))
 

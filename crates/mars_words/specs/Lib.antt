@@ -4,4 +4,5 @@ pub mod Pairs
 pub mod Equal
 -- Of the code alone: what its values mean, and the words of cells.
 pub mod Code
+pub mod Kinds
 pub mod Words

@@ -1,6 +1,7 @@
 -- Of the code alone: what a cell holds in 64 bits. No definition of turns and rounds names a word of this file.
 use Rattle.std.specs.Prelude.{◌≡◌, ℕ, ◌+◌, ◌*◌, ◌/◌, ◌%◌, ◌^◌, ◌==◌, Bool, true, false, if◌then◌else◌, List, [], ◌∷◌}
 use Rattle.war_types.specs.{declared.instr.Op.Op, declared.instr.Modifier.Modifier, declared.instr.Mode.Mode, declared.instr.Instr.Instr, Bytes.{op_code, modifier_code, mode_code}}
+use Rattle.mars_words.specs.Kinds.{kind, kinds}
 
 -- what a cell holds: an instruction, and the mark of a cell that was written since its core was cleared
 pub record Word : Type 0 where
@@ -11,40 +12,9 @@ abbrev pub mark : Bool → ℕ
 mark true = 1
 mark false = 0
 
--- what an instruction is but for its numbers: its B mode, its A mode, its modifier and its operation in 13 bits
+-- what an instruction is but for its numbers
 abbrev pub kind_code : Instr → ℕ
-kind_code i = mode_code i.b_mode + mode_code i.a_mode * 8 + modifier_code i.modifier * 64 + op_code i.op * 512
-
--- the kinds that have a handler of their own, each at its handler's place; at place 0 stands no kind
-unfoldable pub kinds : List ℕ
-kinds =
-    8192 ∷ 7232 ∷ 7233 ∷ 7236 ∷ 7237 ∷ 7238 ∷ 7239 ∷ 7240 ∷ 7241 ∷ 7244 ∷ 7245 ∷ 7246 ∷ 7247 ∷ 7248 ∷ 7249 ∷ 7252 ∷
-    7253 ∷ 7254 ∷ 7255 ∷ 7256 ∷ 7257 ∷ 7260 ∷ 7261 ∷ 7262 ∷ 7263 ∷ 3656 ∷ 3657 ∷ 3660 ∷ 3661 ∷ 3662 ∷ 3663 ∷ 3665 ∷
-    3672 ∷ 3673 ∷ 3676 ∷ 3677 ∷ 3678 ∷ 3679 ∷ 897 ∷ 898 ∷ 905 ∷ 906 ∷ 907 ∷ 908 ∷ 909 ∷ 910 ∷ 911 ∷ 913 ∷ 914 ∷ 916 ∷
-    917 ∷ 918 ∷ 919 ∷ 921 ∷ 922 ∷ 923 ∷ 924 ∷ 925 ∷ 927 ∷ 929 ∷ 932 ∷ 933 ∷ 934 ∷ 935 ∷ 937 ∷ 940 ∷ 941 ∷ 942 ∷ 943 ∷
-    945 ∷ 948 ∷ 949 ∷ 950 ∷ 951 ∷ 953 ∷ 956 ∷ 957 ∷ 958 ∷ 959 ∷ 641 ∷ 651 ∷ 585 ∷ 777 ∷ 256 ∷ 257 ∷ 261 ∷ 265 ∷ 269 ∷
-    296 ∷ 297 ∷ 300 ∷ 301 ∷ 319 ∷ 5192 ∷ 5193 ∷ 5197 ∷ 5199 ∷ 5384 ∷ 5385 ∷ 5387 ∷ 5388 ∷ 5389 ∷ 5390 ∷ 5391 ∷ 1153 ∷
-    1155 ∷ 1281 ∷ 1289 ∷ 1665 ∷ 1793 ∷ 1801 ∷ 1857 ∷ 1865 ∷ 6025 ∷ 6035 ∷ 6537 ∷ 6547 ∷ 4169 ∷ 4171 ∷ 4361 ∷ 4362 ∷
-    4363 ∷ 4365 ∷ 4681 ∷ 4683 ∷ 4873 ∷ 4875 ∷ 6785 ∷ []
-
--- the place at which a list has a number, counted on from a place, or 0 if it hasn't
-unfoldable pub place_from : ℕ → ℕ → List ℕ → ℕ
-place_from n place [] = 0
-place_from n place (x ∷ xs) = if x == n then place else place_from n (place + 1) xs
-
--- the number of the handler of a kind, and of an instruction
-unfoldable pub handler_at : ℕ → ℕ
-handler_at kind = place_from kind 0 kinds
-
-abbrev pub handler_of : Instr → ℕ
-handler_of i = handler_at (kind_code i)
-
--- the bits of a word: from the lowest on the B number and the A number, 16 each, the B mode, the A mode and the modifier, 3 each, the
--- operation, 4, then from bit 55 on the number of its handler, 8, and the mark as the highest of all
-abbrev pub bits_of : Word → ℕ
-bits_of w =
-    w.instr.b + w.instr.a * 2 ^ 16 + mode_code w.instr.b_mode * 2 ^ 32 + mode_code w.instr.a_mode * 2 ^ 35
-    + modifier_code w.instr.modifier * 2 ^ 38 + (op_code w.instr.op + handler_of w.instr * 2 ^ 14) * 2 ^ 41 + mark w.is_marked * 2 ^ 63
+kind_code i = kind i.op i.modifier i.a_mode i.b_mode
 
 abbrev pub mode_at : ℕ → Mode
 mode_at n =
@@ -62,6 +32,61 @@ op_at n =
     else if n == 5 then Op.Div else if n == 6 then Op.Mdl else if n == 7 then Op.Jmp else if n == 8 then Op.Jmz else if n == 9 then Op.Jmn
     else if n == 10 then Op.Djn else if n == 11 then Op.Seq else if n == 12 then Op.Sne else if n == 13 then Op.Slt else if n == 14 then Op.Spl
     else Op.Nop
+
+-- the operation and the modifier in seven bits, and both modes in six
+abbrev pub operation_code : Instr → ℕ
+operation_code i = modifier_code i.modifier + op_code i.op * 8
+
+abbrev pub modes_code : Instr → ℕ
+modes_code i = mode_code i.b_mode + mode_code i.a_mode * 8
+
+-- the place at which a list has a number, counted on from a place, or 0 if it hasn't
+unfoldable pub place_from : ℕ → ℕ → List ℕ → ℕ
+place_from n place [] = 0
+place_from n place (x ∷ xs) = if x == n then place else place_from n (place + 1) xs
+
+-- the modifier of the same B fields, where no A field is read
+abbrev pub by_target : Modifier → Modifier
+by_target Modifier.AB = Modifier.B
+by_target Modifier.BA = Modifier.A
+by_target Modifier.I = Modifier.F
+by_target m = m
+
+-- of the modifiers under which an operation does the same, one
+abbrev pub same_modifier : Op → Modifier → Modifier
+same_modifier Op.Dat m = Modifier.A
+same_modifier Op.Jmp m = Modifier.A
+same_modifier Op.Spl m = Modifier.A
+same_modifier Op.Nop m = Modifier.A
+same_modifier Op.Mov m = m
+same_modifier Op.Seq m = m
+same_modifier Op.Sne m = m
+same_modifier Op.Jmz m = by_target m
+same_modifier Op.Jmn m = by_target m
+same_modifier Op.Djn m = by_target m
+same_modifier op Modifier.I = Modifier.F
+same_modifier op m = m
+
+-- the same of the code of an operation and its modifier, and of a kind
+unfoldable pub same_operation : ℕ → ℕ
+same_operation n = modifier_code (same_modifier (op_at (n / 8)) (modifier_at (n % 8))) + n / 8 * 8
+
+unfoldable pub same_kind : ℕ → ℕ
+same_kind kind = same_operation (kind / 64) * 64 + kind % 64
+
+-- the number of the handler of a kind, and of an instruction
+unfoldable pub handler_at : ℕ → ℕ
+handler_at kind = place_from (same_kind kind) 0 kinds
+
+abbrev pub handler_of : Instr → ℕ
+handler_of i = handler_at (kind_code i)
+
+-- the bits of a word: from the lowest on the B number and the A number, 16 each, the B mode, the A mode and the modifier, 3 each, the
+-- operation, 4, then from bit 57 on the number of its handler, 6, and the mark as the highest of all
+abbrev pub bits_of : Word → ℕ
+bits_of w =
+    w.instr.b + w.instr.a * 2 ^ 16 + mode_code w.instr.b_mode * 2 ^ 32 + mode_code w.instr.a_mode * 2 ^ 35
+    + modifier_code w.instr.modifier * 2 ^ 38 + (op_code w.instr.op + handler_of w.instr * 2 ^ 16) * 2 ^ 41 + mark w.is_marked * 2 ^ 63
 
 -- the word in these bits
 abbrev pub word_in : ℕ → Word

@@ -6,8 +6,9 @@
 //! there too, by its `arithmetic`.
 //!
 //! The main clauses: `of` makes the word of an instruction without a mark. `instr`, `op`, `modifier`, `a_mode`, `b_mode` and `number` read
-//! it back, `with_number` and `marked` change one part and leave the others, and `handler` is that of the kind (`handler_of`). What `plus`,
-//! `minus`, `combined` and `folded` answer is what the definitions of these names make in a core of that size, and below it.
+//! it back, `operation` and `modes` two parts at once. `with_number` and `marked` change one part and leave the others, and `handler` is
+//! that of the kind (`handler_of`). What `plus`, `minus`, `combined` and `folded` answer is what the definitions of these names make in a
+//! core of that size, and below it.
 //!
 //! The crate knows nothing of cores, processes and turns. It takes no memory, and a sum or a difference divides nothing: what is written
 //! out inline there is so for speed.

@@ -2,10 +2,10 @@
 
 ghost use Rattle.std.specs.Prelude.{◌≡◌, ℕ, ◌<◌, ◌≤◌, ◌==◌, Bool, true, false, ◌&&◌};
 ghost use Rattle.war_types.specs.Warrior.{HasNumbersBelow};
-ghost use Rattle.mars_words.specs.{Numbers.{number, with_number}, Equal.are_equal, Code.field_of, Words.{Word, IsWord, word_in, op_at, modifier_at, mode_at, is_plain, kind_code, handler_at, handler_of}};
+ghost use Rattle.mars_words.specs.{Numbers.{number, with_number}, Equal.are_equal, Code.field_of, Words.{Word, IsWord, word_in, op_at, modifier_at, mode_at, is_plain, kind_code, operation_code, modes_code, by_target, same_modifier, same_kind, handler_at, handler_of}};
 
 use crate::field::Field;
-use crate::kinds::{KINDS, PLACES};
+use crate::kinds::{KINDS, MULTIPLIER, PLACES};
 use std::marker::Model;
 use war_types::{Instr, Mode, Modifier, Op};
 
@@ -19,12 +19,12 @@ const MODIFIER: u32 = 38;
 
 const OP: u32 = 41;
 
-const HANDLER: u32 = 55;
+const HANDLER: u32 = 57;
 
 const MARK: u32 = 63;
 
 /// An instruction, and the mark of a cell that was written since its core was cleared. The B number stands from bit 0
-/// on, the A number from bit 16 on, then the B mode, the A mode, the modifier and the operation; from bit 55 on the
+/// on, the A number from bit 16 on, then the B mode, the A mode, the modifier and the operation; from bit 57 on the
 /// number of its handler. The mark is the highest bit.
 #[derive(Clone, Copy)]
 pub struct Word {
@@ -79,7 +79,7 @@ impl Word {
     pub fn handler(self) -> u64
         ensures { result ≡ handler_of self.instr }
     {
-        self.bits >> HANDLER & 127
+        self.bits >> HANDLER & 63
     }
 
     /// The instruction.
@@ -94,6 +94,22 @@ impl Word {
             b_mode: self.b_mode(),
             b: self.number(Field::B) as u16,
         }
+    }
+
+    /// The operation and the modifier.
+    #[inline(always)]
+    pub fn operation(self) -> u64
+        ensures { result ≡ operation_code self.instr }
+    {
+        self.bits >> MODIFIER & 127
+    }
+
+    /// Both modes.
+    #[inline(always)]
+    pub fn modes(self) -> u64
+        ensures { result ≡ modes_code self.instr }
+    {
+        self.bits >> B_MODE & 63
     }
 
     /// The operation.
@@ -207,11 +223,50 @@ fn place_of(kind: u64) -> u64
     requires { kind < 8192 }
     ensures { result ≡ handler_at kind }
 {
-    let place = u64::from(PLACES[(kind * 2905 / 256 % 512) as usize]);
+    let kind = same_kind(kind);
+    let place = u64::from(PLACES[(kind * MULTIPLIER / 256 % 256) as usize]);
     if u64::from(KINDS[place as usize]) == kind {
         place
     } else {
         0
+    }
+}
+
+/// The kind that has the handler of a kind: under one of the modifiers under which the operation does the same.
+#[tactic(auto, unfolding(crate::specs::Words::same_kind, crate::specs::Words::same_operation))]
+fn same_kind(kind: u64) -> u64
+    requires { kind < 8192 }
+    ensures value { result ≡ same_kind kind }
+    ensures small { result < 8192 }
+{
+    let modifier = same_modifier(op_at(kind / 512), modifier_at(kind / 64 % 8));
+    kind / 512 * 512 + u64::from(modifier.code()) * 64 + kind % 64
+}
+
+/// Of the modifiers under which an operation does the same, one.
+fn same_modifier(op: Op, modifier: Modifier) -> Modifier
+    ensures { result ≡ same_modifier op modifier }
+{
+    match op {
+        Op::Dat | Op::Jmp | Op::Spl | Op::Nop => Modifier::A,
+        Op::Mov | Op::Seq | Op::Sne => modifier,
+        Op::Jmz | Op::Jmn | Op::Djn => by_target(modifier),
+        Op::Add | Op::Sub | Op::Mul | Op::Div | Op::Mdl | Op::Slt => match modifier {
+            Modifier::I => Modifier::F,
+            _ => modifier,
+        },
+    }
+}
+
+/// The modifier of the same B fields, where no A field is read.
+fn by_target(modifier: Modifier) -> Modifier
+    ensures { result ≡ by_target modifier }
+{
+    match modifier {
+        Modifier::AB => Modifier::B,
+        Modifier::BA => Modifier::A,
+        Modifier::I => Modifier::F,
+        _ => modifier,
     }
 }
 

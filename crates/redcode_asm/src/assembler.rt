@@ -1,7 +1,7 @@
 //! The assembler.
 
 ghost use Rattle.std.specs.Prelude.{◌≡◌, ◌^◌, ◌<◌, ◌≤◌, ◌+◌, true, length, IfOk, Ok, Err, unwrap_or, []};
-ghost use Rattle.{war_types.specs.{Warrior.Fits, declared.fault.AsmKind.TheVariants.SourceTooLong}, redcode_names.specs.Gives.{Gives, fault_at}, redcode_expand.specs.{Budget.most_steps, Steps.is_plain}, redcode_asm.specs.Said.statement_of};
+ghost use Rattle.{war_types.specs.{Warrior.Fits, declared.fault.AsmKind.TheVariants.SourceTooLong}, redcode_names.specs.Gives.{Gives, fault_at}, redcode_expand.specs.{Budget.most_steps, Steps.is_plain, Taken.steps_taken}, redcode_asm.specs.Said.statement_of};
 ghost use Rattle.redcode_asm.specs.Assembly.{Assembles, assembly, assembly_of, checked_start, warrior_said, all_said, code_of, given_start, start_of, all_hold, last_text, is_name, is_author};
 
 use crate::names::Labels;
@@ -47,6 +47,7 @@ pub(crate) fn assemble_by<A: Allocator + Copy>(
     ensures fits { IfOk result (Fits settings.now) }
     ensures steps { steps.old ≤ steps.new + most_steps (length source.now) }
     ensures plain { is_plain source.now ≡ true → steps.old ≤ steps.new + (length source.now + 1) }
+    ensures taken { steps.old ≤ steps.new + steps_taken settings.now source.now }
 {
     let region = Bump::new(alloc);
     let expanded = expand_within(alloc, &region, source, settings, steps)?;

@@ -36,13 +36,22 @@ labelled-equs s line labels st =
 pub closed-equs : (s : RawSettings) (cs : List Counter) (line : SourceLine) (st new : WalkState) → closed s cs line st ≡ Ok new → new.names.equs ≡ st.names.equs
 closed-equs s cs line st new is = (held (IsSame st) (closed s cs line st) new (labelled-equs s line.number (labels_of (in_copies cs line)) st) is).0
 
+pub for-equs : (s : RawSettings) (line address : ℕ) (labels : List (List ℕ)) (names : Names)
+    → Holds (λ (found : Names × List ℕ). found.0.equs ≡ names.equs) (for_labels s line address labels names)
+for-equs s line address labels names =
+    bind (λ found. found.0.equs ≡ names.equs) (λ found. found.0.equs ≡ names.equs) (but_last s line address labels names) (λ found. Ok (found.0, unwrap_or found.1 []))
+    (last-equs s line address labels names) (λ found same. same)
+
+-- the names that were found
+pub for-found : (s : RawSettings) (line address : ℕ) (labels : List (List ℕ)) (names new : Names) (name : List ℕ) → for_labels s line address labels names ≡ Ok (new, name) → new.equs ≡ names.equs
+for-found s line address labels names new name is = held (λ found. found.0.equs ≡ names.equs) (for_labels s line address labels names) (new, name) (for-equs s line address labels names) is
+
 -- nor does a FOR, which stays at its CURLINE
 pub begun-same : (s : RawSettings) (line : SourceLine) (st : WalkState) (b : Begun) → begun_of s line st ≡ Ok b → IsSame st b.state
 begun-same s line st b is =
     held (λ x. IsSame st x.state) (begun_of s line st) b
     (bind (λ found. found.0.equs ≡ st.names.equs) (λ x. IsSame st x.state) (for_labels s line.number st.before (labels_of line) st.names)
     (λ found. copies_of s line.number st.before found.0.equs (drop 1 line.tokens) >>= λ n. Ok (begun_as (record st { names = found.0 }) found.1 n))
-    (bind (λ found. found.0.equs ≡ st.names.equs) (λ found. found.0.equs ≡ st.names.equs) (but_last s line.number st.before (labels_of line) st.names) (λ found. Ok (found.0, unwrap_or found.1 []))
-    (last-equs s line.number st.before (labels_of line) st.names) (λ found same. same))
+    (for-equs s line.number st.before (labels_of line) st.names)
     (λ found same. bind (λ n. ⊤) (λ x. IsSame st x.state) (copies_of s line.number st.before found.0.equs (drop 1 line.tokens)) (λ n. Ok (begun_as (record st { names = found.0 }) found.1 n))
     (grind arith) (λ n all. (same, refl)))) is

@@ -194,10 +194,10 @@ step-cut s cs line = by-form s (in_copies cs line).form (in_copies cs line)
 
 -- ---- blocks
 
-closed-cut : (s : RawSettings) (cs : List Counter) (rof : SourceLine) → Stable (closed s cs rof)
+pub closed-cut : (s : RawSettings) (cs : List Counter) (rof : SourceLine) → Stable (closed s cs rof)
 closed-cut s cs rof = labelled-cut s rof.number (labels_of (in_copies cs rof))
 
-copied-cut : (line start : ℕ) → Stable (copied line start)
+pub copied-cut : (line start : ℕ) → Stable (copied line start)
 copied-cut line start st = if-same (nat_eq st.counted start) _ _ _ _ (counted-cut line st) (nothing st)
 
 copies-cut : (body : ℕ → WalkState → Walked) → ((n : ℕ) → Stable (body n)) → (line k n : ℕ) → Stable (copies body line k n)
@@ -209,7 +209,7 @@ copies-cut body stable line (suc k) n st =
     (copies-cut body stable line k (n + 1)))
 
 -- a block that begins with cut EQUs
-begun-cut : (s : RawSettings) (line : SourceLine) (st : WalkState) → begun_of s line (cut_walk st) ≡ begun_of s line st >>= λ b. Ok (begun_as (cut_walk b.state) b.counter b.copies)
+pub begun-cut : (s : RawSettings) (line : SourceLine) (st : WalkState) → begun_of s line (cut_walk st) ≡ begun_of s line st >>= λ b. Ok (begun_as (cut_walk b.state) b.counter b.copies)
 begun-cut s line st = grind (arith, last-cut, replaced-cut)
 
 begun-then : (m : Result Begun AsmFault) (next : Begun → Walked) → ((st : WalkState) (name : List ℕ) (n : ℕ) → with_cut (next (begun_as (cut_walk st) name n)) ≡ with_cut (next (begun_as st name n)))

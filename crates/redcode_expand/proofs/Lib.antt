@@ -16,3 +16,6 @@ mod Latest
 mod AddedEqus
 mod Counted
 mod WrittenOut
+mod Taken
+mod GoingSteps
+mod RowsOfSteps

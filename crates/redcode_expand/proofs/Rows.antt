@@ -3,7 +3,7 @@ use Rattle.{std.proofs.Common.{◌≡◌, ℕ, List, [], ◌∷◌, ◌==◌, if
 use Rattle.{war_types.specs.{declared.settings.RawSettings.RawSettings, declared.fault.AsmKind.AsmKind}, redcode_text.specs.Tokens.Piece, redcode_lines.specs.declared.line.LineKind.LineKind}
 use Rattle.{redcode_names.specs.{Gives.fault_at, Equ.replaced, Name.LabelList}, redcode_expand.specs.Expansion.{Expansion, ExpandedLine, expansion}}
 
-abbrev defaults : RawSettings
+abbrev pub defaults : RawSettings
 defaults = record { core = 8000; cycles = 80000; processes = 8000; length = 100; distance = 100; rounds = 10; seed = 1; capacity = 20; read_limit = 8000; write_limit = 8000 }
 
 -- a line by its number, its kind, the instructions before it, its title and the texts of its tokens

@@ -1,11 +1,11 @@
 -- An expansion of a walk that is cut: the same is shown of it, and its addresses count instructions.
-use Rattle.std.proofs.Common.{◌≡◌, ℕ, zero, suc, ◌+◌, ◌<◌, ◌≤◌, nat_lt, List, [], ◌∷◌, ◌++◌, length, take, Result, Ok, Err, refl, sym, ap, ◌∙◌, subst, arith, inl, inr}
-use Rattle.std.{proofs.{lemmas.Bool.{cases_Bool, ltb-true, ltb-false}, lemmas.List.length-map, Common.lt-ltb}, specs.{Bool.⊤, Result.IfOk}}
+use Rattle.std.proofs.Common.{◌≡◌, ℕ, zero, suc, ◌+◌, ◌≤◌, nat_lt, List, [], ◌∷◌, ◌++◌, length, take, Result, Ok, Err, refl, sym, ap, ◌∙◌, subst, arith, inl, inr}
+use Rattle.std.{proofs.{lemmas.Bool.{cases_Bool, ltb-true, ltb-false}, lemmas.List.length-map}, specs.{Bool.⊤, Result.IfOk}}
 use Rattle.{war_types.specs.declared.fault.AsmKind.AsmKind, redcode_lines.specs.Operand.operands_of}
-use Rattle.{redcode_names.specs.{Equ.replaced, Gives.{◌>>=◌, fault_at, Gives}, Cut.cut_equs, Name.address_of}, redcode_names.proofs.Cut.replaced-cut}
+use Rattle.{redcode_names.specs.{Gives.{◌>>=◌, fault_at, Gives}, Cut.cut_equs, Name.address_of}, redcode_names.proofs.Cut.replaced-cut}
 use Rattle.redcode_expand.specs.{Walk.{ExpandedLine, WalkState}, Expansion.{Expansion, all_replaced, before_operands, expansion, finished, line_replaced}, Laws.{instruction_of, instructions, before_at, AreCounted}}
 use Rattle.redcode_expand.specs.Cut.{cut_line, cut_lines, cut_walk, kept_tokens, with_cut, shown, shown_line, shown_lines, shown_tokens, with_shown}
-use Rattle.redcode_expand.proofs.{Cut.{kept-short, kept-long, tokens-twice}, Counted.{Holds, expansion-counted}, Unchanged.line-same, Words.{AsmFault, RawSettings, Piece, LabelList, EquList, LineKind}}
+use Rattle.redcode_expand.proofs.{Cut.{kept-short, kept-long, tokens-twice}, Counted.{Holds, expansion-counted}, Unchanged.{line-same, replaced-long}, Words.{AsmFault, RawSettings, Piece, LabelList, EquList, LineKind}}
 use Rattle.redcode_lines.specs.declared.line.LineKind.TheVariants as lines
 
 -- ---- a line
@@ -23,10 +23,6 @@ IsLimited lines.Org = ⊤
 IsLimited lines.End = ⊤
 IsLimited lines.Assert = ⊤
 IsLimited _ = ⊥
-
-replaced-long : (line : ℕ) (equs : EquList) (ts : List Piece) → 512 < length ts → replaced line equs ts ≡ Err (fault_at line AsmKind.EquLimit)
-unfolding replaced
-replaced-long line equs ts long = rw (lt-ltb 512 (length ts) long) refl
 
 line-long : (equs : EquList) (line : ExpandedLine) → IsLimited line.kind → 516 ≤ length line.tokens → line_replaced equs line ≡ Err (fault_at line.source_line AsmKind.EquLimit)
 line-long equs line h1 h2 = grind (arith, replaced-long)

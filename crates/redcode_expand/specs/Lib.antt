@@ -14,5 +14,9 @@ pub mod Kept
 pub mod Marks
 -- what a step is
 pub mod Steps
+-- the steps that an expansion takes
+pub mod Taken
+-- those of what is left within blocks that are open
+pub mod Left
 -- the most steps that it takes
 pub mod Budget

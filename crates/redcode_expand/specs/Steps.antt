@@ -2,15 +2,11 @@
 use Rattle.std.specs.Prelude.{ℕ, zero, suc, ◌+◌, ◌*◌, ◌/◌, Bool, true, false, ◌&&◌, if◌then◌else◌, List, [], ◌∷◌, length, drop, Option, Some}
 use Rattle.{redcode_text.specs.Tokens.Piece, redcode_text.specs.declared.vocabulary.Word.Word, redcode_lines.specs.{Line.SourceLine, Source.live_lines, Block.{Blocks, parsed, source_lines}}}
 use Rattle.redcode_expand.specs.{declared.marked_lines.Edge.Edge, Marks.{edge_of, has_join, is_bare, line_in, shortened}}
+pub use Rattle.redcode_names.specs.Steps.{token_steps}
 
 abbrev pub bytes_of : List Piece → ℕ
 bytes_of [] = 0
 bytes_of (token ∷ tokens) = length token.text + bytes_of tokens
-
--- a token is read, and a name of many bytes is looked up
-abbrev pub token_steps : List Piece → ℕ
-token_steps [] = 0
-token_steps (token ∷ tokens) = 1 + length token.text / 32 + token_steps tokens
 
 abbrev pub tokens_of : SourceLine → ℕ
 tokens_of line = length line.front + length line.tokens

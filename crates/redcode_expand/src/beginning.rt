@@ -1,8 +1,8 @@
 //! How a block begins.
 
-ghost use Rattle.std.specs.Prelude.{◌≡◌, ◌<◌, ◌≤◌, ◌^◌, Some, length, IfOk, OnOk};
+ghost use Rattle.std.specs.Prelude.{◌≡◌, ◌+◌, ◌<◌, ◌≤◌, ◌^◌, Some, drop, length, IfOk, OnOk};
 ghost use Rattle.{redcode_text.specs.{Tokens.pieces, declared.vocabulary.Word.TheVariants.For}, redcode_lines.specs.Views.line_read};
-ghost use Rattle.{redcode_names.specs.Gives.Gives, redcode_expand.specs.{Rest.counters_of, Walk.{begun, begun_as, begun_of}, Kept.{AreKept, counter_before}, Marks.line_in}};
+ghost use Rattle.{redcode_names.specs.{Gives.Gives, Steps.replacing_steps}, redcode_expand.specs.{Taken.count_steps, Rest.counters_of, Walk.{begun, begun_as, begun_of}, Kept.{AreKept, counter_before}, Marks.line_in}};
 
 use crate::count::copies_of;
 use crate::counts::Counts;
@@ -36,6 +36,7 @@ impl<'s, A: Allocator + Copy> Walk<'s, A> {
         ensures goes_on { OnOk result (self.new.ended ≡ self.old.ended) }
         ensures counted { OnOk result (self.new.counted ≡ self.old.counted) }
         ensures few { IfOk result (λ b. b.copies < 2 ^ 63) }
+        ensures work { work.new ≤ work.old + count_steps (counters_of blocks.now) (line_read line.entry) self.old }
     {
         let copy = blocks.copy_of(line)?;
         self.begin_as(settings, reading_of(line, &copy), work)
@@ -52,6 +53,7 @@ impl<'s, A: Allocator + Copy> Walk<'s, A> {
         ensures goes_on { OnOk result (self.new.ended ≡ self.old.ended) }
         ensures counted { OnOk result (self.new.counted ≡ self.old.counted) }
         ensures few { IfOk result (λ b. b.copies < 2 ^ 63) }
+        ensures work { work.new ≤ work.old + replacing_steps self.old.names.equs (drop 1 (line_read line.entry).tokens) }
     {
         let number = line.number;
         let before = self.before;
@@ -92,6 +94,7 @@ pub(crate) fn begun_at<'s, A: Allocator + Copy>(
     ensures goes_on { OnOk result (walk.new.ended ≡ walk.old.ended) }
     ensures counted { OnOk result (walk.new.counted ≡ walk.old.counted) }
     ensures few { IfOk result (λ b. b.copies < 2 ^ 63) }
+    ensures work { work.new ≤ work.old + count_steps (counters_of blocks.now) (line_in lines.now at) walk.old }
     ensures kept { OnOk result (AreKept settings.now lines.now (counters_of blocks.now) walk.new counts.new) }
 {
     let line = lines.reading(at);

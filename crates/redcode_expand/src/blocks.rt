@@ -3,7 +3,7 @@
 ghost use Rattle.std.specs.Prelude.{◌≡◌, ◌≢◌, ◌+◌, ◌<◌, ◌≤◌, [], true, false, Some, drop, length, IfOk, OnOk};
 ghost use Rattle.{redcode_text.specs.declared.vocabulary.Word.TheVariants.{For, Rof}, redcode_lines.specs.Block.parsed};
 ghost use Rattle.{redcode_names.specs.Gives.Gives, redcode_expand.specs.Rest.{counters_of, AreOpen, Continues}};
-ghost use Rattle.redcode_expand.specs.{Walk.{walk_all, walk_begin, closed}, Kept.AreKept, Cut.{cut_walk, with_cut}, Marks.line_in, Budget.{most_lines, steps_of}, Steps.{is_plain_word, are_plain, reads}};
+ghost use Rattle.redcode_expand.specs.{Walk.{walk_all, walk_begin, closed}, Kept.AreKept, Cut.{cut_walk, with_cut}, Marks.line_in, Budget.{most_lines, steps_of}, Steps.{is_plain_word, are_plain, reads, steps_at, visit_steps}, Taken.walked_steps, Left.rest_steps};
 
 use crate::beginning::begun_at;
 use crate::counts::Counts;
@@ -32,6 +32,7 @@ pub(crate) fn walk_all<'s, A: Allocator + Copy>(
     requires some { 0 < most }
     ensures steps { steps.old ≤ steps.new + steps_of most most_lines }
     ensures plain { are_plain lines.now ≡ true → steps.old ≤ steps.new + reads lines.now }
+    ensures taken { steps.old ≤ steps.new + walked_steps settings.now (parsed lines.now) }
     ensures each { IfOk result (λ walk. walk.counted + steps.new ≤ steps.old) }
     ensures walk { Gives cut_walk result (with_cut (walk_all settings.now (parsed lines.now) walk_begin)) }
 {
@@ -70,6 +71,7 @@ fn walk_lines<'s, A: Allocator + Copy>(
     requires kept { AreKept settings.now lines.now [] walk_begin counts.old }
     ensures steps { steps.old ≤ steps.new + steps_of most most_lines }
     ensures plain { are_plain lines.now ≡ true → steps.old ≤ steps.new + reads lines.now }
+    ensures taken { steps.old ≤ steps.new + walked_steps settings.now (parsed lines.now) }
     ensures each { OnOk result (walk.new.counted + steps.new ≤ steps.old) }
     ensures walk { Gives (λ _. cut_walk walk.new) result (with_cut (walk_all settings.now (parsed lines.now) walk_begin)) }
 {
@@ -104,6 +106,7 @@ fn step<'s, A: Allocator + Copy>(
     ensures goes_on { Continues settings.now lines.now blocks.old at walk.old blocks.new walk.new result }
     ensures kept { OnOk result (AreKept settings.now lines.now (counters_of blocks.new) walk.new counts.new) }
     ensures counted { OnOk result (walk.new.counted ≤ walk.old.counted + 1) }
+    ensures taken { IfOk result (λ next. steps_at (visit_steps (length blocks.old)) lines.now at + work.new + rest_steps settings.now lines.now blocks.new (parsed (drop next lines.now)) walk.new ≤ work.old + rest_steps settings.now lines.now blocks.old (parsed (drop at lines.now)) walk.old) }
     ensures plain { is_plain_word (line_in lines.now at).word ≡ true → blocks.old ≡ [] → IfOk result (λ next. (blocks.new ≡ []) × (next ≡ at + 1) × (work.new ≡ work.old)) }
 {
     match lines.mark(at).edge {
@@ -139,6 +142,7 @@ fn begin<'s, A: Allocator + Copy>(
     ensures goes_on { Continues settings.now lines.now blocks.old at walk.old blocks.new walk.new result }
     ensures kept { OnOk result (AreKept settings.now lines.now (counters_of blocks.new) walk.new counts.new) }
     ensures counted { OnOk result (walk.new.counted ≤ walk.old.counted + 1) }
+    ensures taken { IfOk result (λ next. steps_at (visit_steps (length blocks.old)) lines.now at + work.new + rest_steps settings.now lines.now blocks.new (parsed (drop next lines.now)) walk.new ≤ work.old + rest_steps settings.now lines.now blocks.old (parsed (drop at lines.now)) walk.old) }
 {
     let rof = lines.mark(at).rof;
     if rof >= lines.len() {
@@ -179,6 +183,7 @@ fn end_copy<'s, A: Allocator + Copy>(
     ensures open { OnOk result (blocks.old ≢ []) }
     ensures goes_on { Continues settings.now lines.now blocks.old at walk.old blocks.new walk.new result }
     ensures counted { OnOk result (walk.new.counted ≤ walk.old.counted + 1) }
+    ensures taken { IfOk result (λ next. steps_at (visit_steps (length blocks.old)) lines.now at + work.new + rest_steps settings.now lines.now blocks.new (parsed (drop next lines.now)) walk.new ≤ work.old + rest_steps settings.now lines.now blocks.old (parsed (drop at lines.now)) walk.old) }
 {
     let Some(block) = blocks.pop() else {
         return Err(AsmFault {

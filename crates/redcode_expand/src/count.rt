@@ -1,7 +1,7 @@
 //! The count of a block.
 
-ghost use Rattle.std.specs.Prelude.{◌≡◌, ◌<◌, ◌^◌, IfOk};
-ghost use Rattle.{redcode_text.specs.Tokens.pieces, redcode_names.specs.Gives.Gives, redcode_expand.specs.Walk.copies_of};
+ghost use Rattle.std.specs.Prelude.{◌≡◌, ◌+◌, ◌<◌, ◌≤◌, ◌^◌, IfOk};
+ghost use Rattle.{redcode_text.specs.Tokens.pieces, redcode_names.specs.{Gives.Gives, Steps.replacing_steps}, redcode_expand.specs.Walk.copies_of};
 
 use redcode_names::{Equs, predefined, replaced};
 use redcode_text::{Names, Token, value};
@@ -39,6 +39,7 @@ pub(crate) fn copies_of<'s, A: Allocator + Copy>(
 ) -> Result<u64, AsmFault>
     ensures copies { Gives (λ n. n) result (copies_of settings.now line before equs.now (pieces tokens.now)) }
     ensures few { IfOk result (λ n. n < 2 ^ 63) }
+    ensures work { work.new ≤ work.old + replacing_steps equs.now (pieces tokens.now) }
 {
     let replaced = replaced(alloc, equs, line, tokens, work)?;
     let names = Predefined { settings, before };

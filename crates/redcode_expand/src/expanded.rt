@@ -1,8 +1,8 @@
 //! The lines of a source written out, with the names of `EQU`s in their operands replaced.
 
 ghost use Rattle.std.specs.Prelude.{◌≡◌, ◌<◌, ◌≤◌, ◌+◌, ◌^◌, [], true, length, IfOk, Err};
-ghost use Rattle.{war_types.specs.declared.fault.AsmKind.TheVariants.SourceTooLong, redcode_lines.specs.Block.parsed, redcode_names.specs.Gives.{Gives, fault_at}};
-ghost use Rattle.redcode_expand.specs.{Laws.{AreCounted, BlocksAreWrittenOut, LabelsStandBehindInstructions}, Expansion.{expansion, address_of, all_replaced, line_replaced, expansion_of_blocks}, Cut.{shown, with_shown}, Budget.{most_lines, most_steps, steps_of}, Steps.{are_plain, is_plain, reads}};
+ghost use Rattle.{war_types.specs.declared.fault.AsmKind.TheVariants.SourceTooLong, redcode_lines.specs.{Block.parsed, Operand.operands_of}, redcode_names.specs.{Gives.{Gives, fault_at}, Steps.rounds_steps}};
+ghost use Rattle.redcode_expand.specs.{Laws.{AreCounted, BlocksAreWrittenOut, LabelsStandBehindInstructions}, Expansion.{expansion, address_of, all_replaced, line_replaced, expansion_of_blocks}, Cut.{shown, with_shown}, Budget.{most_lines, most_steps, steps_of}, Steps.{are_plain, is_plain, reads}, Taken.{blocks_steps, line_steps, lines_steps, steps_taken}};
 
 use crate::blocks::walk_all;
 use crate::entry::{Entry, joined};
@@ -61,7 +61,8 @@ pub fn expand<'s, A: Allocator + Copy>(
     expand_within(alloc, region, source, settings, &mut steps)
 }
 
-/// The same within a budget of steps: `Memory` is answered too if they are spent. Each line that is written out takes one at least.
+/// The same within a budget of steps: `Memory` is answered too if they are spent. Each line that is written out takes one at least, and
+/// the whole source no more than `steps_taken` counts.
 #[tactic(auto, unfolding(crate::specs::Expansion::expansion))]
 pub fn expand_within<'s, A: Allocator + Copy>(
     alloc: A,
@@ -77,6 +78,7 @@ pub fn expand_within<'s, A: Allocator + Copy>(
     ensures counted { IfOk result AreCounted }
     ensures steps { steps.old ≤ steps.new + most_steps (length source.entry.now) }
     ensures plain { is_plain source.entry.now ≡ true → steps.old ≤ steps.new + (length source.entry.now + 1) }
+    ensures taken { steps.old ≤ steps.new + steps_taken settings.now source.entry.now }
     ensures each { IfOk result (λ expanded. length expanded.lines + steps.new ≤ steps.old) }
 {
     if source.len() > SOURCE_LIMIT {
@@ -106,6 +108,7 @@ fn expanded_lines<'s, A: Allocator + Copy>(
     requires some { 0 < most }
     ensures steps { steps.old ≤ steps.new + (steps_of most most_lines + 2 ^ 32) }
     ensures plain { are_plain lines.now ≡ true → steps.old ≤ steps.new + reads lines.now }
+    ensures taken { steps.old ≤ steps.new + blocks_steps settings.now (parsed lines.now) }
     ensures each { IfOk result (λ expanded. length expanded.lines + steps.new ≤ steps.old) }
     ensures expanded { Gives shown result (with_shown (expansion_of_blocks settings.now (parsed lines.now))) }
 {
@@ -145,6 +148,7 @@ pub(crate) fn replace_each<'s, A: Allocator + Copy>(
     ensures steps { steps.old ≤ steps.new + 2 ^ 32 }
     ensures less { steps.new ≤ steps.old }
     ensures plain { names.now.equs ≡ [] → steps.new ≡ steps.old }
+    ensures taken { steps.old ≤ steps.new + lines_steps names.now.equs entries.entry.items }
     ensures lines { Gives (λ lines. lines.items) result (all_replaced names.now.equs entries.entry.items) }
 {
     let floor = steps.floor(REPLACING);
@@ -167,16 +171,33 @@ fn replace_in<'s, A: Allocator + Copy>(
 ) -> Result<Entry<'s, A>, AsmFault>
     ensures line { Gives (λ line. line) result (line_replaced names.now.equs entry.entry) }
     ensures plain { names.now.equs ≡ [] → work.new ≡ work.old }
+    ensures work { work.new ≤ work.old + line_steps names.now.equs entry.entry }
 {
     let line = entry.line;
     let tokens = entry.tokens.as_slice();
     let operands = operands_of(line.kind, tokens);
+    if operands.len() > TOKEN_LIMIT {
+        return Err(too_many(line.source_line));
+    }
     if names.has_no_equs() || !names.equs.are_among(operands) {
-        if operands.len() > TOKEN_LIMIT {
-            return Err(too_many(line.source_line));
-        }
         return Ok(entry);
     }
+    written_in(alloc, names, entry, work)
+}
+
+/// The line with its operands written anew.
+fn written_in<'s, A: Allocator + Copy>(
+    alloc: A,
+    names: &Names<'s, A>,
+    entry: Entry<'s, A>,
+    work: &mut u64,
+) -> Result<Entry<'s, A>, AsmFault>
+    ensures line { Gives (λ line. line) result (line_replaced names.now.equs entry.entry) }
+    ensures work { work.new ≤ work.old + rounds_steps 16 names.now.equs (operands_of entry.entry.kind entry.entry.tokens) }
+{
+    let line = entry.line;
+    let tokens = entry.tokens.as_slice();
+    let operands = operands_of(line.kind, tokens);
     let before = &tokens[..tokens.len() - operands.len()];
     let operands = written(alloc, &names.equs, line.source_line, operands, work)?;
     let tokens = joined(alloc, before, operands.as_slice())?;

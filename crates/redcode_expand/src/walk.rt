@@ -2,7 +2,7 @@
 
 ghost use Rattle.std.specs.Prelude.{◌≡◌, ◌+◌, ◌<◌, ◌≤◌, ◌^◌, [], length, Ok, IfOk, OnOk};
 ghost use Rattle.{redcode_text.specs.Tokens.pieces, redcode_lines.specs.{Line.labels_of, Views.line_read}};
-ghost use Rattle.{redcode_names.specs.Gives.Gives, redcode_expand.specs.{Cut.{cut_walk, with_cut}, Expansion.finished, Rest.counters_of}};
+ghost use Rattle.{redcode_names.specs.Gives.Gives, redcode_expand.specs.{Cut.{cut_walk, with_cut}, Expansion.finished, Rest.counters_of, Taken.finish_steps}};
 ghost use Rattle.redcode_expand.specs.Walk.{walk_begin, closed, copied, counted, labelled, with_line, placed, statement, lined, step, step_as, IsCopied};
 
 use crate::entry::{Entry, cut};
@@ -124,6 +124,7 @@ impl<'s, A: Allocator + Copy> Walk<'s, A> {
         ensures steps { steps.old ≤ steps.new + 2 ^ 32 }
         ensures less { steps.new ≤ steps.old }
         ensures plain { self.entry.names.equs ≡ [] → steps.new ≡ steps.old }
+        ensures taken { steps.old ≤ steps.new + finish_steps self.entry }
         ensures lines { IfOk result (λ expanded. length expanded.lines ≤ self.entry.counted) }
         ensures expanded { Gives (λ expanded. expanded) result (finished self.entry) }
     {

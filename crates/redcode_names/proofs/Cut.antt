@@ -1,12 +1,12 @@
 -- EQUs whose bodies are cut: what is replaced, and which names are taken, stays the same.
-use Rattle.std.proofs.Common.{◌≡◌, ℕ, zero, suc, ◌<◌, ◌≤◌, Bool, false, true, ◌||◌, List, [], ◌∷◌, ◌++◌, length, take, map, Result, Ok, Err, refl, sym, ap, ◌∙◌, arith, length-append, lt-ltb, Option}
-use Rattle.std.proofs.{lemmas.Bool.Decides.nat_tests, lemmas.List.{length-take-le, take_all, take-take, map-append}, lemmas.Bool.{cases_Bool, ltb-true, ltb-false}}
+use Rattle.std.proofs.Common.{◌≡◌, ℕ, zero, suc, ◌<◌, Bool, false, true, List, [], ◌∷◌, ◌++◌, length, take, Result, Ok, Err, refl, ap, ◌∙◌, arith, length-append, lt-ltb, Option}
+use Rattle.std.proofs.{lemmas.List.{length-take-le, take_all, take-take, map-append}, lemmas.Bool.{cases_Bool, ltb-true, ltb-false}}
 use Rattle.{std.proofs.Common.{inl, inr, ◌⊎◌}, std.specs.{Prelude.{nat_lt, if◌then◌else◌}, Str.bytes_eq}, redcode_lines.specs.Line.is_name}
 use Rattle.{war_types.specs.{declared.fault.AsmFault.AsmFault, declared.settings.RawSettings.RawSettings, declared.fault.AsmKind.AsmKind}, redcode_text.specs.Tokens.Piece}
 use Rattle.redcode_names.specs.Gives.{◌>>=◌, fault_at}
-use Rattle.redcode_names.specs.Equ.{EquList, is_bad_body, is_equ, body_of, body_at, or_itself, has_tokens, round, has_equ, left_over, rounds, replaced, after_rounds}
+use Rattle.redcode_names.specs.Equ.{EquList, is_bad_body, is_equ, body_of, body_at, or_itself, has_tokens, round, has_equ, rounds, replaced}
 use Rattle.redcode_names.specs.Name.{Names, names_of, is_taken, defined, all_defined, but_last, equ_defined, equ_named, equ_line}
-use Rattle.redcode_names.specs.Cut.{cut_equ, cut_equs, cut_names, with_cut}
+use Rattle.redcode_names.specs.Cut.{cut_equs, cut_names, with_cut}
 
 -- ---- lists of EQUs
 
@@ -30,14 +30,14 @@ body-cut : (equs : EquList) (name : List ℕ) → body_of (cut_equs equs) name �
 body-cut [] name = refl
 body-cut (equ ∷ equs) name = rw (body-cut equs name) (if-cut (bytes_eq name equ.0) equ.1 (body_of equs name))
 
-at-cut : (equs : EquList) (token : Piece) → body_at (cut_equs equs) token ≡ take 513 (body_at equs token)
+pub at-cut : (equs : EquList) (token : Piece) → body_at (cut_equs equs) token ≡ take 513 (body_at equs token)
 at-cut equs token = rw (body-cut equs token.text) (if-cut (is_name token.kind) (body_of equs token.text) [])
 
 some-cut : (ts : List Piece) → has_tokens (take 513 ts) ≡ has_tokens ts
 some-cut [] = refl
 some-cut (t ∷ ts) = refl
 
-has_equ-cut : (equs : EquList) (ts : List Piece) → has_equ (cut_equs equs) ts ≡ has_equ equs ts
+pub has_equ-cut : (equs : EquList) (ts : List Piece) → has_equ (cut_equs equs) ts ≡ has_equ equs ts
 has_equ-cut equs [] = refl
 has_equ-cut equs (t ∷ ts) = rw (at-cut equs t, some-cut (body_at equs t), has_equ-cut equs ts) refl
 

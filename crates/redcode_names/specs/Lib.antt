@@ -8,3 +8,5 @@ pub mod Name
 pub mod Written
 -- and what it keeps of EQUs
 pub mod Cut
+-- what a replacement takes in steps
+pub mod Steps

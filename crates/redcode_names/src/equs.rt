@@ -22,11 +22,13 @@ pub struct Equs<'s, A: Allocator + Copy> {
 }
 
 impl<'s, A: Allocator + Copy> Model for Equs<'s, A> {
-    ghost use Rattle.{std.specs.Prelude.map, redcode_text.specs.Tokens.pieces, redcode_names.specs.Equ.EquList};
+    ghost use Rattle.{std.specs.Prelude.map, redcode_text.specs.Tokens.pieces, redcode_names.specs.{Equ.EquList, Cut.AreKept}};
 
     ghost Value = { EquList };
 
     ghost view = { λ e. map (λ entry. (entry.0, pieces entry.1.items)) e.bodies.entries };
+
+    ghost invariant = { λ e. AreKept (map (λ entry. (entry.0, pieces entry.1.items)) e.bodies.entries) };
 }
 
 impl<'s, A: Allocator + Copy> Equs<'s, A> {
@@ -70,8 +72,10 @@ impl<'s, A: Allocator + Copy> Equs<'s, A> {
 
     /// The tokens that a token stands for; none if it is no name of an EQU.
     pub(crate) fn body_at(&self, token: &Token<'_>) -> &[Token<'s>]
-        ensures { pieces result.now ≡ body_at self.now (piece_of token.now) }
+        ensures body { pieces result.now ≡ body_at self.now (piece_of token.now) }
+        ensures kept { take 513 (body_at self.now (piece_of token.now)) ≡ body_at self.now (piece_of token.now) }
     {
+        let _ = &self.alloc;
         match self.place_of(token) {
             Some(place) => self.bodies()[place].as_slice(),
             None => &[],

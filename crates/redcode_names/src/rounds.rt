@@ -1,8 +1,8 @@
 //! The replacement of the names of EQUs, in 16 rounds at most.
 
-ghost use Rattle.std.specs.{Prelude.{◌≡◌, suc, []}, Cow.cow_slice_items};
-ghost use Rattle.{war_types.specs.declared.fault.AsmKind.TheVariants.EquLimit, redcode_text.specs.Tokens.pieces};
-ghost use Rattle.redcode_names.specs.{Gives.{Gives, fault_at}, Equ.replaced, Written.{has_name, appended, written}};
+ghost use Rattle.std.specs.{Prelude.{◌≡◌, ◌≤◌, ◌+◌, ◌/◌, suc, [], length}, Cow.cow_slice_items};
+ghost use Rattle.{war_types.specs.declared.fault.AsmKind.TheVariants.EquLimit, redcode_text.specs.Tokens.{piece_of, pieces}};
+ghost use Rattle.redcode_names.specs.{Gives.{Gives, fault_at}, Equ.replaced, Written.{has_name, appended, written}, Steps.{token_steps, rounds_steps, replacing_steps}};
 
 use crate::equs::Equs;
 use redcode_lines::is_name;
@@ -26,7 +26,8 @@ pub fn replaced<'t, 's, A: Allocator + Copy>(
     tokens: &'t [Token<'s>],
     work: &mut u64,
 ) -> Result<CowSlice<'t, Token<'s>, A>, AsmFault>
-    ensures { Gives (λ tokens. pieces (cow_slice_items tokens)) result (replaced line equs.now (pieces tokens.entry.now)) }
+    ensures replaced { Gives (λ tokens. pieces (cow_slice_items tokens)) result (replaced line equs.now (pieces tokens.entry.now)) }
+    ensures work { work.new ≤ work.old + replacing_steps equs.now (pieces tokens.entry.now) }
 {
     if !equs.are_among(tokens) {
         if tokens.len() > TOKEN_LIMIT {
@@ -47,7 +48,8 @@ pub fn written<'s, A: Allocator + Copy>(
     tokens: &[Token<'s>],
     work: &mut u64,
 ) -> Result<Vec<Token<'s>, A>, AsmFault>
-    ensures { Gives (λ tokens. pieces tokens.items) result (replaced line equs.now (pieces tokens.now)) }
+    ensures replaced { Gives (λ tokens. pieces tokens.items) result (replaced line equs.now (pieces tokens.now)) }
+    ensures work { work.new ≤ work.old + rounds_steps 16 equs.now (pieces tokens.now) }
 {
     let mut out = Vec::with_capacity(alloc, tokens.len())?;
     match write(equs, line, ROUNDS, tokens, &mut out, work) {
@@ -66,7 +68,8 @@ fn write<'s, A: Allocator + Copy>(
     out: &mut Vec<Token<'s>, A>,
     work: &mut u64,
 ) -> Result<(), AsmFault>
-    ensures { Gives (λ _. pieces out.new.items) result (written (suc rounds) line equs.now (pieces out.old.items) (pieces tokens.now)) }
+    ensures written { Gives (λ _. pieces out.new.items) result (written (suc rounds) line equs.now (pieces out.old.items) (pieces tokens.now)) }
+    ensures work { work.new ≤ work.old + rounds_steps rounds equs.now (pieces tokens.now) }
 {
     if !has_name(tokens) {
         return append(line, tokens, out, work);
@@ -110,7 +113,8 @@ fn append<'s, A: Allocator>(
     out: &mut Vec<Token<'s>, A>,
     work: &mut u64,
 ) -> Result<(), AsmFault>
-    ensures { Gives (λ _. pieces out.new.items) result (appended line (pieces out.old.items) (pieces tokens.now)) }
+    ensures appended { Gives (λ _. pieces out.new.items) result (appended line (pieces out.old.items) (pieces tokens.now)) }
+    ensures work { work.new ≤ work.old + token_steps (pieces tokens.now) }
 {
     let mut steps = *work;
     // Counts in `work` what it appends.
@@ -126,7 +130,9 @@ fn append<'s, A: Allocator>(
 }
 
 /// The steps of a token that is looked up: its name is read.
-fn work_of(token: &Token<'_>) -> u64 {
+fn work_of(token: &Token<'_>) -> u64
+    ensures { result ≡ 1 + length (piece_of token.now).text / 32 }
+{
     1 + (token.text.len() / 32) as u64
 }
 

@@ -1,5 +1,5 @@
 use Rattle.{std.proofs.{lemmas.Grind.common_steps, Common.{arith, sym, ◌∙◌}}, redcode_lines.specs.Views.line_read, redcode_expand.specs.{Marks.line_in, Rest.counters_of}}
-use Rattle.redcode_expand.proofs.{GoingOn.{line-fails, line-goes-on}, Latest.kept-later, Marks.{word-for, word-rof}, Short.{fails-read, step-read}}
+use Rattle.redcode_expand.proofs.{GoingOn.{line-fails, line-goes-on}, GoingSteps.line-taken, Latest.kept-later, Marks.{word-for, word-rof}, Short.{fails-read, step-read}}
 use Rattle.redcode_expand.proofs.blocks.step.Goals as goal
 
 pub returns-in_ok-step-in-Neither-clause-kept : goal.returns-in_ok-step-in-Neither-clause-kept
@@ -27,6 +27,16 @@ returns-in_ok-step-in-Neither-clause-goes_on g c =
     (sym c.mark.ensures.edge ∙ c.in-Neither.is) c.requires.opened
     (sym (step-read c.args.settings.now (counters_of c.args.blocks.now) line (line_read c.shortened.result) c.args.walk.now c.shortened.ensures) ∙ c.in_ok-step-in-Neither.ensures.step)
     c.in_ok-step-in-Neither.ensures.counted.0 c.in_ok-step-in-Neither.ensures.counted.1 c.requires.few
+
+pub returns-in_ok-step-in-Neither-clause-taken : goal.returns-in_ok-step-in-Neither-clause-taken
+returns-in_ok-step-in-Neither-clause-taken g c =
+    let line = line_in c.args.lines.now c.args.at in
+    omega (
+      arith,
+      line-taken c.args.settings.now c.args.lines.now c.args.blocks.now c.args.at c.args.walk.now c.step.new.self c.requires.some c.requires.goes_on
+          (sym c.mark.ensures.edge ∙ c.in-Neither.is)
+          (sym (step-read c.args.settings.now (counters_of c.args.blocks.now) line (line_read c.shortened.result) c.args.walk.now c.shortened.ensures) ∙ c.in_ok-step-in-Neither.ensures.step),
+    )
 
 pub overflow_add-result : goal.overflow_add-result
 overflow_add-result g c = omega (arith, c.requires.some, c.requires.few)

@@ -1,6 +1,6 @@
 use Rattle.{std.proofs.Common.{◌≡◌, ℕ, ◌≤◌, List, Result, arith, length, le-ltb, sym, ap, subst, ◌∙◌}, war_types.specs.{declared.settings.RawSettings.RawSettings, declared.fault.AsmFault.AsmFault}}
 use Rattle.{redcode_lines.specs.{Source.{NumberedLine, lines_of, numbered_from, live_lines}, Line.SourceLine, Block.{parsed, source_lines}}, redcode_names.specs.Gives.Gives}
-use Rattle.{redcode_expand.specs.{Expansion.{Expansion, expansion, expansion_of_blocks}, Cut.{shown, with_shown}}, redcode_expand.specs.Steps.{are_plain, reads}, redcode_expand.proofs.{Budget.most-within, Plain.reads-few, Counted.labels-stand, Shown.if-counted, WrittenOut.blocks-written}}
+use Rattle.{redcode_expand.specs.{Expansion.{Expansion, expansion, expansion_of_blocks}, Cut.{shown, with_shown}}, redcode_expand.specs.{Steps.{are_plain, reads}, Taken.{blocks_steps, steps_taken}}, redcode_expand.proofs.{Budget.most-within, Plain.reads-few, Counted.labels-stand, Shown.if-counted, WrittenOut.blocks-written}}
 use Rattle.redcode_expand.proofs.expanded.expand_within.Goals as goal
 
 -- the result of the walk over all lines is due
@@ -43,6 +43,12 @@ returns-in_err-lines-clause-labels g c = labels-stand c.args.settings.now
 pub returns-clause-steps : goal.returns-clause-steps
 returns-clause-steps g c =
     most-within c.args.steps.now c.expanded_lines.new.steps c.line_steps-most.result (length c.args.source.now) c.line_steps-most.ensures.steps c.expanded_lines.ensures.steps
+
+pub returns-clause-taken : goal.returns-clause-taken
+unfolding steps_taken
+returns-clause-taken g c =
+    let live = c.as_slice.ensures.value ∙ c.in_ok-lines.ensures.lines ∙ ap (λ (ns : List NumberedLine). source_lines ns) c.live_source-number.ensures.lines in
+    omega (arith, c.expanded_lines.ensures.taken, ap (λ (ls : List SourceLine). blocks_steps c.args.settings.now (parsed ls)) live)
 
 pub returns-clause-plain : goal.returns-clause-plain
 returns-clause-plain g c plain =

@@ -1,4 +1,4 @@
-use Rattle.{std.proofs.{lemmas.Grind.common_steps, Common.{length, ap, arith}}, redcode_expand.proofs.Unchanged.line-kept}
+use Rattle.{std.proofs.{lemmas.Grind.common_steps, Common.{length, ap, arith}}, redcode_expand.{specs.Taken.lines_steps, proofs.Unchanged.line-kept}}
 use Rattle.redcode_expand.proofs.expanded.replace_each.Goals as goal
 
 pub loop-entry-preserved : goal.loop-entry-preserved
@@ -13,6 +13,7 @@ loop-entry-preserved g c =
       c.spend.ensures.low,
       omega (arith, c.spend.ensures.less, c.loop-entry.invariant.3),
       λ none. omega (arith, c.spend.ensures.less, c.spend.ensures.few, c.in_ok-line.ensures.plain none, c.loop-entry.invariant.4 none),
+      omega (arith, c.spend.ensures.few, c.in_ok-line.ensures.work, ap (lines_steps c.args.names.now.equs) steps.0, c.loop-entry.invariant.5),
     )
 
 pub returns-clause-lines : goal.returns-clause-lines

@@ -1,0 +1,28 @@
+;redcode-94
+;name Drawn 4
+;author koth
+;assert CORESIZE == 8000
+;
+; Written by bench/evolve, seed 1.
+
+ORG 0
+SEQ.F <2503, {-3799
+SNE.BA *-519, #208
+MUL.A {-2327, *1525
+SLT.AB @4, }-4
+NOP.A $-7, #-2326
+SNE.BA }2552, {-3702
+SPL.BA {2, <2825
+ADD.AB $11, >3268
+SPL.F $1, $4
+MUL.BA $-745, #-4
+MOD.BA #9, <-3271
+ADD.X *-1, {-2218
+MUL.A $559, #-146
+JMP.I $-4, $-1468
+SNE.BA }8, >264
+SLT.F $-2612, *1919
+SNE.X @2204, @12
+JMN.F $1, $-3793
+SEQ.I >-12, <12
+END
