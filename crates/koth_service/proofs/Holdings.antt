@@ -17,6 +17,7 @@ same_store (Noted.AtEnd n) m = refl
 same_store (Noted.Told n bytes) m = refl
 same_store (Noted.Shut n) m = refl
 same_store (Noted.Lost n) m = refl
+same_store (Noted.Here n) m = refl
 same_store (Noted.Closed n) m = refl
 same_store (Noted.Admitted n) m = refl
 same_store (Noted.Requested n bytes) m = refl

@@ -13,4 +13,5 @@ mod Ends
 mod Servings
 mod Stages
 mod Visits
+mod Looking
 pub mod Told

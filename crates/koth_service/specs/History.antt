@@ -232,6 +232,7 @@ Follows facts shows most (Happening.On (Noted.Told n bytes)) m =
     Begins ((m.sessions n).went ++ bytes) (m.sessions n).owed
 Follows facts shows most (Happening.On (Noted.Shut n)) m = HasEnded (m.sessions n) × HasAll (m.sessions n)
 Follows facts shows most (Happening.On (Noted.Lost n)) m = ⊤
+Follows facts shows most (Happening.On (Noted.Here n)) m = ⊤
 Follows facts shows most (Happening.On (Noted.Closed n)) m = ⊥
 Follows facts shows most (Happening.On (Noted.Admitted n)) m = (m.browsers n).there ≡ false
 Follows facts shows most (Happening.On (Noted.Requested n bytes)) m = ⊤

@@ -1,8 +1,8 @@
--- Of private contracts alone: a peer that may be disconnected for another.
-use Rattle.std.specs.Prelude.{◌≡◌, ⊤, ℕ, ◌<◌, ◌≤◌, nat_le, false, if◌then◌else◌, length}
+-- Of private contracts alone: a peer that may be disconnected for another, or that is gone.
+use Rattle.std.specs.Prelude.{◌≡◌, ◌⊎◌, ⊤, ℕ, ◌<◌, ◌≤◌, nat_le, false, if◌then◌else◌, List, length}
 use Rattle.std.specs.Prelude.{Option, None, Some, IsSome}
-use Rattle.koth_session.specs.Peers.{is_due_at, is_finished_in, peer_at}
-use Rattle.koth_service.specs.Seats.{IsUnused, seat_at}
+use Rattle.koth_session.specs.Peers.{end_in, is_due_at, is_finished_in, peer_at}
+use Rattle.koth_service.specs.{Noted.{Adds, Noted}, Seats.{IsUnused, seat_at}}
 use Rattle.koth_service.specs.declared.{arrivals.Place.Place, desk.Desk.Desk, seats.Seat.Seat}
 
 -- its session goes on or answers are unsent, no command of it is due, and it is of no use
@@ -39,3 +39,10 @@ abbrev pub MayGive : {D A : Type 0} → Place → Desk D A → Type 0
 MayGive Place.Free desk = ⊤
 MayGive (Place.Of n) desk = IsLongest n desk
 MayGive Place.Nowhere desk = ⊤
+
+-- the sockets say that the peer of this number isn't gone, or it is disconnected, if its session goes on
+abbrev pub IsLookedAt : {S D A : Type 0} → (S → List Noted → Type 0) → ℕ → S → Desk D A → S → Desk D A
+    → Type 0
+IsLookedAt happened n sockets desk new_sockets new_desk =
+    IsSome (seat_at desk.seats.seats.items n) → end_in (peer_at desk.peers.slots.items n) ≡ None
+    → Adds happened (Noted.Here n) sockets new_sockets ⊎ (seat_at new_desk.seats.seats.items n ≡ None)

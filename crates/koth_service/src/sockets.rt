@@ -1,6 +1,6 @@
 //! What sockets may say.
 
-ghost use Rattle.{std.specs.Prelude.{ℕ, List}, koth_service.specs.Noted.{Adds, Admits, Arrives, Noted, Reads, ReadsBrowser, Stays, Writes, WritesBrowser}};
+ghost use Rattle.{std.specs.Prelude.{ℕ, List}, koth_service.specs.Noted.{Adds, Admits, Arrives, Asks, Noted, Reads, ReadsBrowser, Stays, Writes, WritesBrowser}};
 
 use std::net::SocketAddr;
 
@@ -83,6 +83,10 @@ pub trait Sockets {
     /// Writes to the peer of this number.
     fn write(&mut self, number: usize, bytes: &[u8]) -> Went
         ensures { Writes Self.happened number self.old bytes.now result self.new };
+
+    /// Whether the peer of this number is known to be gone, though nothing is read from it: its connection was reset.
+    fn is_gone(&mut self, number: usize) -> bool
+        ensures { Asks Self.happened number self.old result self.new };
 
     /// Shuts the writing side of the peer of this number: no more goes out to it. What went out still reaches it.
     fn shut(&mut self, number: usize)

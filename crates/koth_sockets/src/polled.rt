@@ -226,6 +226,13 @@ impl<'r, R: Clock, A: Allocator> Sockets for PolledSockets<'r, R, A> {
         }
     }
 
+    fn is_gone(&mut self, number: usize) -> bool {
+        match self.lines.get(number) {
+            Some(Some(line)) => line.is_gone(),
+            _ => true,
+        }
+    }
+
     fn shut(&mut self, number: usize) {
         if let Some(Some(line)) = self.lines.get(number) {
             line.shut();

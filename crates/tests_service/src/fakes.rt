@@ -175,6 +175,10 @@ impl Sockets for Fakes<'_> {
         }
     }
 
+    fn is_gone(&mut self, number: usize) -> bool {
+        self.seated(false, number).is_none()
+    }
+
     fn shut(&mut self, _number: usize) {}
 
     fn drain(&mut self, number: usize) -> Drained {
