@@ -1,11 +1,12 @@
 -- What happens on sockets, and what each call of them adds.
-use Rattle.std.specs.Prelude.{⊤, ℕ, ◌≤◌, List, ◌∷◌, length, take}
+use Rattle.std.specs.Prelude.{⊤, ℕ, ◌≤◌, Bool, true, false, List, ◌∷◌, length, take}
 use Rattle.koth_service.specs.{declared.sockets.Arrival.Arrival, declared.sockets.Came.Came, declared.sockets.Went.Went}
 
 -- The time was told, or it was told at the end of a wait, in milliseconds. A connection was accepted that has no
 -- number yet; it was closed. A peer was put under a number; bytes came from it; its bytes are at their end; bytes
--- went out to it; its writing side was shut; it is gone; its socket was closed. A browser was put under its number;
--- bytes came from it; bytes went out to it; its socket was closed.
+-- went out to it; its writing side was shut; it is gone; it isn't known to be gone; its socket was closed. A connection
+-- of a browser was accepted that has no number yet; none waits, or its accept failed for now; it was closed. A browser
+-- was put under its number; bytes came from it; bytes went out to it; its socket was closed.
 pub data Noted : Type 0 where
   Clock : ℕ → Noted
   Waited : ℕ → Noted
@@ -17,7 +18,11 @@ pub data Noted : Type 0 where
   Told : ℕ → List ℕ → Noted
   Shut : ℕ → Noted
   Lost : ℕ → Noted
+  Here : ℕ → Noted
   Closed : ℕ → Noted
+  Called : Noted
+  Uncalled : Noted
+  TurnedAway : Noted
   Admitted : ℕ → Noted
   Requested : ℕ → List ℕ → Noted
   Shown : ℕ → List ℕ → Noted
@@ -37,11 +42,11 @@ Arrives happened old (Arrival.Peer address) new = Adds happened Noted.Arrived ol
 Arrives happened old Arrival.Nobody new = Stays happened old new
 Arrives happened old Arrival.Failed new = Stays happened old new
 
--- a browser is put under the number, if one came
-abbrev pub Admits : {S : Type 0} → (S → List Noted → Type 0) → ℕ → S → Arrival → S → Type 0
-Admits happened n old (Arrival.Peer address) new = Adds happened (Noted.Admitted n) old new
-Admits happened n old Arrival.Nobody new = Stays happened old new
-Admits happened n old Arrival.Failed new = Stays happened old new
+-- a connection of a browser arrives, if one came
+abbrev pub Visits : {S : Type 0} → (S → List Noted → Type 0) → S → Arrival → S → Type 0
+Visits happened old (Arrival.Peer address) new = Adds happened Noted.Called old new
+Visits happened old Arrival.Nobody new = Adds happened Noted.Uncalled old new
+Visits happened old Arrival.Failed new = Adds happened Noted.Uncalled old new
 
 -- what a read of a peer says is added: the bytes that came, that they are at their end, or that the peer is gone
 abbrev pub Reads : {S : Type 0} → (S → List Noted → Type 0) → ℕ → S → List ℕ → Came → S → Type 0
@@ -50,6 +55,11 @@ Reads happened n old bytes (Came.Bytes count) new =
 Reads happened n old bytes Came.End new = Adds happened (Noted.AtEnd n) old new
 Reads happened n old bytes Came.Nothing new = Stays happened old new
 Reads happened n old bytes Came.Gone new = Adds happened (Noted.Lost n) old new
+
+-- whether a peer is gone is added
+abbrev pub Asks : {S : Type 0} → (S → List Noted → Type 0) → ℕ → S → Bool → S → Type 0
+Asks happened n old true new = Adds happened (Noted.Lost n) old new
+Asks happened n old false new = Adds happened (Noted.Here n) old new
 
 -- what a write to a peer says is added: the bytes that went out, or that the peer is gone
 abbrev pub Writes : {S : Type 0} → (S → List Noted → Type 0) → ℕ → S → List ℕ → Went → S → Type 0

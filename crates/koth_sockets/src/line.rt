@@ -21,6 +21,8 @@ pub(crate) struct Line {
     can_read: bool,
     /// Whether a write may take bytes.
     can_write: bool,
+    /// Whether the connection was reset, or both sides were closed: then nothing more comes or goes out.
+    is_gone: bool,
 }
 
 impl Line {
@@ -34,6 +36,7 @@ impl Line {
                 stream,
                 can_read: true,
                 can_write: true,
+                is_gone: false,
             }),
             Err(_) => None,
         }
@@ -42,12 +45,19 @@ impl Line {
     /// Takes note of an event that a poll reported.
     pub(crate) fn take_event(&mut self, event: &Event) {
         let failed = event.is_error();
+        if failed || (event.is_read_closed() && event.is_write_closed()) {
+            self.is_gone = true;
+        }
         if failed || event.is_readable() || event.is_read_closed() {
             self.can_read = true;
         }
         if failed || event.is_writable() || event.is_write_closed() {
             self.can_write = true;
         }
+    }
+
+    pub(crate) fn is_gone(&self) -> bool {
+        self.is_gone
     }
 
     pub(crate) fn read(&mut self, bytes: &mut [u8]) -> Came

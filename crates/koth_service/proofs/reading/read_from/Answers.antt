@@ -20,7 +20,7 @@ returns-in-Gone-clause-served g c = λ start browsers on.
     c.let_go.ensures.served start browsers gone.0 gone.1
 
 pub returns-then-room-eq0-clause-told : goal.returns-then-room-eq0-clause-told
-returns-then-room-eq0-clause-told g c = stays _
+returns-then-room-eq0-clause-told g c = c.look_at.ensures.told
 
 pub returns-in-Bytes-clause-told : goal.returns-in-Bytes-clause-told
 returns-in-Bytes-clause-told g c = stays _
