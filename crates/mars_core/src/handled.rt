@@ -89,6 +89,6 @@ pub(crate) fn handled<const SIDE: u64, A: Allocator>(
         61 => arm::<SIDE, 61, NOP, B_INDIRECT, B_PRE, A>(core, size, pc, i),
         62 => arm::<SIDE, 62, SPL, DIRECT, A_PRE, A>(core, size, pc, i),
         63 => arm::<SIDE, 63, JMN_F, DIRECT, DIRECT, A>(core, size, pc, i),
-        _ => general(core, size, pc, i),
+        _ => general::<SIDE, A>(core, size, pc, i),
     }
 }

@@ -58,7 +58,7 @@ pub(crate) fn arm<
 {
     let a = operand_by::<A_MODE, A>(core, size, pc, i.number(Field::A));
     let b = operand_by::<B_MODE, A>(core, size, pc, i.number(Field::B));
-    effect_by::<OPERATION, A>(core, size, pc, a, b)
+    effect_by::<SIDE, HANDLER, OPERATION, A>(core, size, pc, a, b)
 }
 
 /// The operand of a mode that the compiler knows.
@@ -81,9 +81,10 @@ fn operand_by<const MODE: u64, A: Allocator>(
     evaluate(core, size, pc, mode_at(MODE), number)
 }
 
-/// The effect of an operation and a modifier that the compiler knows.
+/// The effect of an operation and a modifier that the compiler knows. SIDE and PLACE, a number below 64 of a handler and
+/// above of an arm without one, are for the compiler alone: so each is called from one place, and written out there.
 #[inline]
-fn effect_by<const OPERATION: u64, A: Allocator>(
+fn effect_by<const SIDE: u64, const PLACE: u64, const OPERATION: u64, A: Allocator>(
     core: &mut Core<A>,
     size: Size,
     pc: u32,
@@ -114,22 +115,28 @@ fn effect_by<const OPERATION: u64, A: Allocator>(
 
 /// Executes an instruction of a kind without a handler: both operands by one jump, then the operation by another.
 #[inline(always)]
-pub(crate) fn general<A: Allocator>(core: &mut Core<A>, size: Size, pc: u32, i: Word) -> Queued
-    requires at { IsAt size core.old pc i.instr }
-    ensures { IsExecuted size core.old core.new pc (addresses result) }
-{
-    let (a, b) = by_modes(core, size, pc, i);
-    by_operation(core, size, pc, i, a, b)
-}
-
-/// The operands of an instruction of these modes.
-#[inline(always)]
-pub(crate) fn pair<const MODES: u64, const A_MODE: u64, const B_MODE: u64, A: Allocator>(
+pub(crate) fn general<const SIDE: u64, A: Allocator>(
     core: &mut Core<A>,
     size: Size,
     pc: u32,
     i: Word,
-) -> (Operand, Operand)
+) -> Queued
+    requires at { IsAt size core.old pc i.instr }
+    ensures { IsExecuted size core.old core.new pc (addresses result) }
+{
+    let (a, b) = by_modes::<SIDE, A>(core, size, pc, i);
+    by_operation::<SIDE, A>(core, size, pc, i, a, b)
+}
+
+/// The operands of an instruction of these modes. SIDE is for the compiler alone, as for `dispatched`.
+#[inline(always)]
+pub(crate) fn pair<
+    const SIDE: u64,
+    const MODES: u64,
+    const A_MODE: u64,
+    const B_MODE: u64,
+    A: Allocator,
+>(core: &mut Core<A>, size: Size, pc: u32, i: Word) -> (Operand, Operand)
     requires core { IsCore size core.old }
     requires pc { pc < size }
     requires numbers { HasNumbersBelow size i.instr }
@@ -147,9 +154,10 @@ pub(crate) fn pair<const MODES: u64, const A_MODE: u64, const B_MODE: u64, A: Al
     (a, b)
 }
 
-/// The effect of an instruction that does the same as under OPERATION.
+/// The effect of an instruction that does the same as under OPERATION. SIDE and PLACE are for the compiler alone,
+/// as for `effect_by`.
 #[inline(always)]
-pub(crate) fn effect_of<const OPERATION: u64, A: Allocator>(
+pub(crate) fn effect_of<const SIDE: u64, const PLACE: u64, const OPERATION: u64, A: Allocator>(
     core: &mut Core<A>,
     size: Size,
     pc: u32,
@@ -169,7 +177,7 @@ pub(crate) fn effect_of<const OPERATION: u64, A: Allocator>(
     ensures core { IsCore size core.new }
     ensures addresses { All (λ a. a < size) (addresses result) }
 {
-    effect_by::<OPERATION, A>(core, size, pc, a, b)
+    effect_by::<SIDE, PLACE, OPERATION, A>(core, size, pc, a, b)
 }
 
 /// The effect of an instruction of any operation.
