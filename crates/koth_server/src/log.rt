@@ -6,7 +6,7 @@ use hill_store::Reply;
 use jiff::Timestamp;
 use koth_commands::{name_text, write_whole};
 use koth_keeping::seed_hint;
-use koth_service::{Event, HowEnded, LogWrite, PeerEnd};
+use koth_service::{Event, HowEnded, LogWrite, PeerEnd, WhyUnasked};
 use koth_session::line_of;
 use koth_words::Service;
 use std::alloc::{AllocError, Allocator};
@@ -158,6 +158,7 @@ impl<'r, R: Clock> Log<'r, R> {
             Event::Answered(reply) => return self.reply_line(alloc, peer, &reply),
             Event::Ended(how) => end_text(how),
             Event::Refused => "refused: as many peers of its address are connected as may be",
+            Event::Unasked(why) => unasked_text(why),
             Event::Asked {
                 line,
                 status,
@@ -258,5 +259,15 @@ fn end_text(how: HowEnded) -> &'static str {
         HowEnded::Browser => "ended: a browser, and not an author",
         HowEnded::Displaced => "ended: its place was given to another peer",
         HowEnded::Gone => "ended: the peer is gone",
+    }
+}
+
+fn unasked_text(why: WhyUnasked) -> &'static str {
+    match why {
+        WhyUnasked::Refused => "no page: as many browsers of its address are connected as may be",
+        WhyUnasked::Displaced => "no page: its slot was given to another browser",
+        WhyUnasked::Late => "no page: its request took too long",
+        WhyUnasked::Gone => "no page: the browser is gone",
+        WhyUnasked::Memory => "no page: memory ran out",
     }
 }

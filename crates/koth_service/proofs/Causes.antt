@@ -5,12 +5,12 @@ use Rattle.koth_protocol.specs.{Commands.{Command, Reader, commands_read}, Readi
 use Rattle.koth_session.specs.{Inbox.{IsReadTo, is_request}, Peer.{HasRead, is_due_now}, Peers.{asks_in, end_in, is_due_in, is_finished_in}}
 use Rattle.koth_session.{specs.declared.{end.PeerEnd.PeerEnd, inbox.Inbox.Inbox, peer.Peer.Peer}, proofs.Standing.those_came}
 use Rattle.koth_service.specs.{Seats.{IsPatienceOver, IsUnused, has_some}, Session.Session, Moment.Moment, History.{AsksForPage, Begins, IsCause, IsSilent, MayBeDisplaced, MayDisconnect}}
-use Rattle.koth_service.{specs.{Standing.{AwaitedIn, Stands, StandsAt, over_by}, declared.{host.HowEnded.HowEnded, seats.Seat.Seat}}, proofs.Moments.is_some_byte}
+use Rattle.koth_service.{specs.{Standing.{AwaitedIn, Stands, StandsAt, over_by}, declared.{host.HowEnded.HowEnded, seats.Seat.Seat, times.TheConstants.{UNSPOKEN, UNUSED}}}, proofs.Moments.is_some_byte}
 use Rattle.koth_service.proofs.Due.{both, due_is_something, empty_of, false_of, finished, goes_on_by, has_all, idle, not_finished}
 
 -- ---- truth values and lists
 
-none_came : (l : List ℕ) → has_some l ≡ false → l ≡ []
+pub none_came : (l : List ℕ) → has_some l ≡ false → l ≡ []
 none_came [] is = refl
 none_came (x ∷ l) is = absurd (true≢false (sym (ap not (is_some_byte x l)) ∙ is))
 
@@ -115,14 +115,14 @@ module _ {A : Type 0} where
   -- ---- a peer that may be disconnected for another
 
   pub may_leave : {D : Type 0} (n clock : ℕ) (m : Moment D) (slot : Option (Peer A)) (seat : Seat) → StandsAt (m.sessions n) slot (Some seat) → m.round.clock ≡ clock
-      → is_due_in slot ≡ false → is_finished_in slot ≡ false → IsUnused clock seat.has_spoken seat.useful → MayBeDisplaced m n
+      → is_due_in slot ≡ false → is_finished_in slot ≡ false → IsUnused UNSPOKEN UNUSED clock seat.has_spoken seat.useful → MayBeDisplaced m n
   may_leave n clock m None seat stands at due more unused = absurd stands
   may_leave n clock m (Some peer) seat stands at due more unused =
       let s = m.sessions n in
       let of = stands.1 in
-      let now : IsUnused m.round.clock (has_some s.came) s.useful =
-      subst (λ c. IsUnused c (has_some s.came) s.useful) (sym at)
-      (subst (λ b. IsUnused clock b s.useful) of.spoken (subst (λ u. IsUnused clock seat.has_spoken u) (sym of.useful) unused)) in record {
+      let now : IsUnused UNSPOKEN UNUSED m.round.clock (has_some s.came) s.useful =
+      subst (λ c. IsUnused UNSPOKEN UNUSED c (has_some s.came) s.useful) (sym at)
+      (subst (λ b. IsUnused UNSPOKEN UNUSED clock b s.useful) of.spoken (subst (λ u. IsUnused UNSPOKEN UNUSED clock seat.has_spoken u) (sym of.useful) unused)) in record {
         there = stands.0.there;
         idle = idle s peer stands.0 due;
         goes_on = λ is. true≢false (sym (not_finished s peer stands.0 is.0 is.1) ∙ more);
@@ -130,14 +130,14 @@ module _ {A : Type 0} where
       }
 
   pub may_be : {D : Type 0} (n clock : ℕ) (m : Moment D) (slot : Option (Peer A)) (seat : Seat) → StandsAt (m.sessions n) slot (Some seat) → m.round.clock ≡ clock
-      → MayBeDisplaced m n → IsUnused clock seat.has_spoken seat.useful × (is_due_in slot ≡ false) × (is_finished_in slot ≡ false)
+      → MayBeDisplaced m n → IsUnused UNSPOKEN UNUSED clock seat.has_spoken seat.useful × (is_due_in slot ≡ false) × (is_finished_in slot ≡ false)
   may_be n clock m None seat stands at may = absurd stands
   may_be n clock m (Some peer) seat stands at may =
       let s = m.sessions n in
       let of = stands.1 in
-      let now : IsUnused m.round.clock (has_some s.came) s.useful = elim may.long [ inl mute ↦ inl (ap has_some mute.0, mute.1) | inr long ↦ inr long ] in (
-        subst (λ u. IsUnused clock seat.has_spoken u) of.useful
-            (subst (λ b. IsUnused clock b s.useful) (sym of.spoken) (subst (λ c. IsUnused c (has_some s.came) s.useful) at now)),
+      let now : IsUnused UNSPOKEN UNUSED m.round.clock (has_some s.came) s.useful = elim may.long [ inl mute ↦ inl (ap has_some mute.0, mute.1) | inr long ↦ inr long ] in (
+        subst (λ u. IsUnused UNSPOKEN UNUSED clock seat.has_spoken u) of.useful
+            (subst (λ b. IsUnused UNSPOKEN UNUSED clock b s.useful) (sym of.spoken) (subst (λ c. IsUnused UNSPOKEN UNUSED c (has_some s.came) s.useful) at now)),
         false_of (is_due_now peer) (λ due. due_is_something s peer stands.0 due may.idle),
         false_of (is_finished_in (Some peer)) (λ is. may.goes_on (finished s peer stands.0 is)),
       )

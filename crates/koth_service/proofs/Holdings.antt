@@ -19,6 +19,9 @@ same_store (Noted.Shut n) m = refl
 same_store (Noted.Lost n) m = refl
 same_store (Noted.Here n) m = refl
 same_store (Noted.Closed n) m = refl
+same_store Noted.Called m = refl
+same_store Noted.Uncalled m = refl
+same_store Noted.TurnedAway m = refl
 same_store (Noted.Admitted n) m = refl
 same_store (Noted.Requested n bytes) m = refl
 same_store (Noted.Shown n bytes) m = refl
@@ -58,7 +61,7 @@ module _ {D : Type 0} (facts : DeviceFacts D) (s : RawSettings) where
   -- ---- at each moment
 
   module _ (shows : Shows D) (start : Start D) (before : List (List ℕ)) where
-    held_next : (what : Happening D) (older : List (Happening D)) → Follows facts shows start.most what (moment start older) → IsHeld facts s before start older
+    held_next : (what : Happening D) (older : List (Happening D)) → Follows facts shows start what (moment start older) → IsHeld facts s before start older
         → IsHeld facts s before start (what ∷ older)
     held_next (Happening.On what) older follows held = record {
       found = held.found;
@@ -90,6 +93,7 @@ module _ {D : Type 0} (facts : DeviceFacts D) (s : RawSettings) where
     held_next (Happening.Stepped n source) older follows held = record { found = held.found; more = held.more; counts = held.counts; holds = held.holds }
     held_next (Happening.Disconnected n how) older follows held = record { found = held.found; more = held.more; counts = held.counts; holds = held.holds }
     held_next (Happening.Replied n reply) older follows held = record { found = held.found; more = held.more; counts = held.counts; holds = held.holds }
+    held_next (Happening.Displaced n) older follows held = record { found = held.found; more = held.more; counts = held.counts; holds = held.holds }
 
     pub latest : (history : List (Happening D)) → AreHeld facts s before start history → IsHeld facts s before start history
     latest [] held = held

@@ -3,7 +3,7 @@ mod Due
 mod Causes
 mod Turns
 mod Outcomes
-mod Places
+mod Longest
 mod Awaiting
 mod Holdings
 mod Living
@@ -13,5 +13,6 @@ mod Ends
 mod Servings
 mod Stages
 mod Visits
+mod Displacing
 mod Looking
 pub mod Told

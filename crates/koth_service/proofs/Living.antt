@@ -61,6 +61,9 @@ module _ {D : Type 0} (facts : DeviceFacts D) (s : RawSettings) where
     lived (Happening.Replied n reply ∷ older) holding is =
         let rest = lived older holding is.1 in
         record { events = rest.events; are = rest.are; goes = rest.goes; sized = rest.sized }
+    lived (Happening.Displaced n ∷ older) holding is =
+        let rest = lived older holding is.1 in
+        record { events = rest.events; are = rest.are; goes = rest.goes; sized = rest.sized }
     lived (Happening.Stopped n end ∷ older) holding is =
         let rest = lived older holding is.1 in
         record { events = rest.events; are = rest.are; goes = rest.goes; sized = rest.sized }

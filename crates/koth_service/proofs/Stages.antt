@@ -1,5 +1,5 @@
 -- What one part of a moment makes of the others.
-use Rattle.std.proofs.{Common.{◌≡◌, ◌∙◌, inl, inr, ℕ, ◌≤◌, ◌==◌, max, Bool, true, false, if◌then◌else◌, length, List, [], Option, None, Some, IsSome, ap, refl, sym, subst}, lemmas.Bool.cases_eq}
+use Rattle.std.proofs.{Common.{◌≡◌, ◌∙◌, inl, inr, ℕ, ◌≤◌, ◌==◌, max, Bool, true, true≢false, false, if◌then◌else◌, length, List, [], Option, None, Some, IsSome, ap, refl, sym, subst}, lemmas.Bool.cases_eq}
 use Rattle.sector_disk.specs.Facts.{DeviceFacts}
 use Rattle.{hill_store.specs.Seen.Seen, koth_session.specs.{Judge.{Fight, fighting, without}, Peers.IsOfOne}, koth_session.proofs.{Exchanges.served_none, Holding.keeps_list}}
 use Rattle.koth_service.specs.{Noted.Noted, Session.{Browser, Session}, Moment.{Happening, Moment, Start, ended_in, instead, moment, noted}, Rounds.{Round, Shares, other_than, shares_at}, History.{IsHistory, IsSafe, Shows}}
@@ -33,9 +33,20 @@ module _ {A : Type 0} where
   stage_of_one true old new stage before after is now = now
   stage_of_one false old new stage before after is now = is
 
-  parting_of_one : (here : Bool) (b : Browser) (stage before : Option (Stage A)) → IsAtStage b (if here then before else stage)
+  -- it is there
+  pub there_of : (b : Browser) (stage : Stage A) → IsAtStage b (Some stage) → b.there ≡ true
+  there_of b (Stage.Asking visit since) is = ap (λ (x : Browser). x.there) is.0
+  there_of b (Stage.Asked visit) is = ap (λ (x : Browser). x.there) is.1
+  there_of b (Stage.Answering unsent) is = is.0
+  there_of b Stage.Parting is = is
+
+  pub there_at_some : (b : Browser) (stage : Option (Stage A)) → IsSome stage → IsAtStage b stage → b.there ≡ true
+  there_at_some b None some is = absurd (true≢false (sym some))
+  there_at_some b (Some stage) some is = there_of b stage is
+
+  parting_of_one : (here : Bool) (b : Browser) (stage : Option (Stage A)) (before : Stage A) → IsAtStage b (if here then Some before else stage)
       → IsAtStage b (if here then Some Stage.Parting else stage)
-  parting_of_one true b stage before is = tt
+  parting_of_one true b stage before is = there_of b before is
   parting_of_one false b stage before is = is
 
 module _ {A : Type 0} (visitors : ℕ → Browser) (browsers : ℕ → Option (Stage A)) (n : ℕ) where
@@ -46,7 +57,7 @@ module _ {A : Type 0} (visitors : ℕ → Browser) (browsers : ℕ → Option (S
       → AreAtStages (instead visitors n b) (instead browsers n after)
   stages_with b before after is are = λ p. stage_of_one (p == n) (visitors p) b (browsers p) before after (are p) is
 
-  pub stages_over : (before : Option (Stage A)) → AreAtStages visitors (instead browsers n before) → AreAtStages visitors (instead browsers n (Some Stage.Parting))
+  pub stages_over : (before : Stage A) → AreAtStages visitors (instead browsers n (Some before)) → AreAtStages visitors (instead browsers n (Some Stage.Parting))
   stages_over before are = λ p. parting_of_one (p == n) (visitors p) (browsers p) before (are p)
 
 -- ---- the submission of a peer is not under way any more

@@ -1,9 +1,9 @@
 -- How a history goes on by what happens with browsers.
-use Rattle.std.proofs.Common.{◌≡◌, ◌∙◌, inl, inr, ◌≤◌, ◌&&◌, ◌||◌, not, ℕ, Bool, true, false, true≢false, ap, List, [], ◌∷◌, ◌++◌, take, drop, Option, None, Some, refl, sym, subst, append_assoc, take-append-drop}
+use Rattle.std.proofs.Common.{◌≡◌, ◌∙◌, inl, inr, ◌<◌, ◌≤◌, length, ◌&&◌, ◌||◌, not, ℕ, Bool, true, false, true≢false, ap, List, [], ◌∷◌, ◌++◌, take, drop, Option, None, Some, refl, sym, subst, append_assoc, take-append-drop}
 use Rattle.{sector_disk.specs.Facts.DeviceFacts, hill_store.specs.Seen.Seen, koth_service.specs.{Noted.{Adds, Noted, ReadsBrowser, Stays}, Answering.AnswersBytes}}
-use Rattle.koth_service.specs.{Session.{Browser, browser_anew, browser_came, browser_replied, browser_went}, Moment.{Happening, Moment, Start, instead, moment, noted}, History.{MayReply, Replies, Shows, owed_by}}
+use Rattle.koth_service.specs.{Session.{Browser, browser_anew, browser_asks, browser_came, browser_replied, browser_went}, Moment.{Happening, Moment, Start, instead, moment, noted}, History.{MayReply, Replies, Shows, owed_by}}
 use Rattle.koth_service.specs.{Rounds.{Shares, shares_shown}, Seats.seat_at, Standing.{AreStanding, GoesOn, IsAtStage, IsRound, PeersNow, shown_to}}
-use Rattle.koth_session.specs.{Judge.fighting, Peers.peer_at}
+use Rattle.{koth_http.specs.Asked.IsAsked, koth_session.specs.{Judge.fighting, Peers.peer_at}}
 use Rattle.koth_service.specs.{Connections.{ClosesUnless, ComesTo, Connections, IsFree, MayShow, ShownOn, StaysAt, stage_at, stage_in}, declared.sockets.Came.Came, declared.connections.Connection.Connection}
 use Rattle.koth_service.specs.declared.connections.Stage.{Stage}
 use Rattle.koth_service.proofs.{Stages.{came_to_be, instead_kept, instead_twice, safe_on, stage_here, stages_over, stages_with}, Steps.stays, Turns.nobody_may}
@@ -22,7 +22,7 @@ module _ {S D A : Type 0} (happened : S → List Noted → Type 0) (facts : Devi
   still old new stage same on = stays happened facts shows start (instead browsers n stage) old new peers store same on
 
   -- nothing more goes out to it
-  pub over : (sockets : S) (stage : Option (Stage A)) → Is sockets stage → Is sockets (Some Stage.Parting)
+  pub over : (sockets : S) (stage : Stage A) → Is sockets (Some stage) → Is sockets (Some Stage.Parting)
   over sockets stage on =
       let before = on.1 in (
         on.0,
@@ -31,29 +31,33 @@ module _ {S D A : Type 0} (happened : S → List Noted → Type 0) (facts : Devi
         on.2,
       )
 
-  -- a browser came
-  pub admitted : (old new : S) → Adds happened (Noted.Admitted n) old new → Is old None → Is new (Some (Stage.Asking []))
-  admitted old new adds on =
+  -- a browser came, and has this number now
+  pub admitted : (old new : S) (since : ℕ) → n < start.slots → peers.clock ≡ since → Adds happened (Noted.Admitted n) old new → Is old None → Is new (Some (Stage.Asking [] since))
+  admitted old new since within now adds on =
       let before = on.1 in
+      let round = before.round in
       let m = moment start on.0 in
-      let b = browser_anew true in (
+      let b = browser_anew true m.round.clock in (
         Happening.On (Noted.Admitted n) ∷ on.0,
-        came_to_be (adds (noted on.0) before.logged) (stage_here m.browsers browsers n None before.visiting, before.follows) before.standing
-            (stages_with m.browsers browsers n b None (Some (Stage.Asking [])) refl before.visiting) before.now_is before.places before.seats before.ended before.round before.of_one,
+        came_to_be (adds (noted on.0) before.logged) ((stage_here m.browsers browsers n None before.visiting, within), before.follows) before.standing
+            (stages_with m.browsers browsers n b None (Some (Stage.Asking [] since)) (ap (λ (c : ℕ). browser_anew true c) (round.clock ∙ now), inl refl) before.visiting)
+            before.now_is before.places before.seats before.ended
+            (record { clock = round.clock; read_at = round.read_at; turn = round.turn; fighting = round.fighting; shares = round.shares }) before.of_one,
         safe_on on.2,
       )
 
-  -- bytes of it came
-  pub requested : (old new : S) (visit bytes : List ℕ) → Adds happened (Noted.Requested n bytes) old new
-      → Is old (Some (Stage.Asking visit)) → Is new (Some (Stage.Asking (visit ++ bytes)))
-  requested old new visit bytes adds on =
+  -- bytes of it came, and it is at this stage then
+  pub requested : (old new : S) (visit bytes : List ℕ) (since : ℕ) (stage : Stage A) → Adds happened (Noted.Requested n bytes) old new
+      → ((b : Browser) → b ≡ browser_asks (visit ++ bytes) since → IsAtStage b (Some stage))
+      → Is old (Some (Stage.Asking visit since)) → Is new (Some stage)
+  requested old new visit bytes since stage adds becomes on =
       let before = on.1 in
       let m = moment start on.0 in
       let b = browser_came bytes (m.browsers n) in
-      let here = stage_here m.browsers browsers n (Some (Stage.Asking visit)) before.visiting in (
+      let here = stage_here m.browsers browsers n (Some (Stage.Asking visit since)) before.visiting in (
         Happening.On (Noted.Requested n bytes) ∷ on.0,
         came_to_be (adds (noted on.0) before.logged) (tt, before.follows) before.standing
-            (stages_with m.browsers browsers n b (Some (Stage.Asking visit)) (Some (Stage.Asking (visit ++ bytes))) (ap (λ (x : Browser). browser_came bytes x) here) before.visiting)
+            (stages_with m.browsers browsers n b (Some (Stage.Asking visit since)) (Some stage) (becomes b (ap (λ (x : Browser). browser_came bytes x) here.0)) before.visiting)
             before.now_is before.places before.seats before.ended before.round before.of_one,
         safe_on on.2,
       )
@@ -63,10 +67,11 @@ module _ {S D A : Type 0} (happened : S → List Noted → Type 0) (facts : Devi
   wasted old new bytes adds on =
       let before = on.1 in
       let m = moment start on.0 in
-      let b = browser_came bytes (m.browsers n) in (
+      let b = browser_came bytes (m.browsers n) in
+      let here = stage_here m.browsers browsers n (Some Stage.Parting) before.visiting in (
         Happening.On (Noted.Requested n bytes) ∷ on.0,
         came_to_be (adds (noted on.0) before.logged) (tt, before.follows) before.standing
-            (stages_with m.browsers browsers n b (Some Stage.Parting) (Some Stage.Parting) tt before.visiting) before.now_is before.places before.seats before.ended before.round before.of_one,
+            (stages_with m.browsers browsers n b (Some Stage.Parting) (Some Stage.Parting) here before.visiting) before.now_is before.places before.seats before.ended before.round before.of_one,
         safe_on on.2,
       )
 
@@ -85,14 +90,14 @@ module _ {S D A : Type 0} (happened : S → List Noted → Type 0) (facts : Devi
   IsShown sockets stage = GoesOn happened facts shows start sockets (shown_to true peers) (instead browsers n stage) store
 
   -- it was answered
-  pub replied : (sockets : S) (visit reply : List ℕ) → MayShow peers → AnswersBytes (shows store) visit reply → Is sockets (Some (Stage.Asking visit))
+  pub replied : (sockets : S) (visit reply : List ℕ) → MayShow peers → AnswersBytes (shows store) visit reply → Is sockets (Some (Stage.Asked visit))
       → IsShown sockets (Some (Stage.Answering reply))
   replied sockets visit reply may answers on =
       let before = on.1 in
       let round = before.round in
       let m = moment start on.0 in
       let b = browser_replied reply (m.browsers n) in
-      let here = stage_here m.browsers browsers n (Some (Stage.Asking visit)) before.visiting in
+      let here = (stage_here m.browsers browsers n (Some (Stage.Asked visit)) before.visiting).1 in
       let came : (m.browsers n).came ≡ visit = ap (λ (x : Browser). x.came) here in
       let of_store : AnswersBytes (shows m.now) visit reply = subst (λ (s : Seen D). AnswersBytes (shows s) visit reply) (sym before.now_is) answers in
       let replies : Replies shows n reply m = record {
@@ -104,7 +109,8 @@ module _ {S D A : Type 0} (happened : S → List Noted → Type 0) (facts : Devi
       } in (
         Happening.Replied n reply ∷ on.0,
         came_to_be before.logged (replies, before.follows) before.standing
-            (stages_with m.browsers browsers n b (Some (Stage.Asking visit)) (Some (Stage.Answering reply)) (ap (λ (x : Browser). x.went ++ reply) here) before.visiting)
+            (stages_with m.browsers browsers n b (Some (Stage.Asked visit)) (Some (Stage.Answering reply)) (ap (λ (x : Browser). x.there) here, ap (λ (x : Browser). x.went ++ reply) here)
+            before.visiting)
             before.now_is before.places before.seats before.ended
             (record { clock = round.clock; read_at = round.read_at; turn = round.turn; fighting = round.fighting; shares = ap shares_shown round.shares }) before.of_one,
         safe_on on.2,
@@ -120,10 +126,10 @@ module _ {S D A : Type 0} (happened : S → List Noted → Type 0) (facts : Devi
       let b = browser_went (take count unsent) now in
       let here = stage_here m.browsers browsers n (Some (Stage.Answering unsent)) before.visiting in
       let all : (now.went ++ take count unsent) ++ drop count unsent ≡ owed_by now.reply =
-      append_assoc now.went (take count unsent) (drop count unsent) ∙ ap (λ l. now.went ++ l) (take-append-drop count unsent) ∙ here in (
+      append_assoc now.went (take count unsent) (drop count unsent) ∙ ap (λ l. now.went ++ l) (take-append-drop count unsent) ∙ here.1 in (
         Happening.On (Noted.Shown n (take count unsent)) ∷ on.0,
         came_to_be (adds (noted on.0) before.logged) ((drop count unsent, sym all), before.follows) before.standing
-            (stages_with m.browsers browsers n b (Some (Stage.Answering unsent)) (Some (Stage.Answering (drop count unsent))) all before.visiting) before.now_is before.places before.seats before.ended before.round before.of_one,
+            (stages_with m.browsers browsers n b (Some (Stage.Answering unsent)) (Some (Stage.Answering (drop count unsent))) (here.0, all) before.visiting) before.now_is before.places before.seats before.ended before.round before.of_one,
         safe_on on.2,
       )
 
@@ -132,7 +138,7 @@ module _ {S D A : Type 0} (happened : S → List Noted → Type 0) (facts : Devi
   left old new stage adds on =
       let before = on.1 in
       let m = moment start on.0 in
-      let b = browser_anew false in (
+      let b = browser_anew false m.round.clock in (
         Happening.On (Noted.Left n) ∷ on.0,
         came_to_be (adds (noted on.0) before.logged) (tt, before.follows) before.standing
             (stages_with m.browsers browsers n b stage None refl before.visiting) before.now_is before.places before.seats before.ended before.round before.of_one,
@@ -141,15 +147,22 @@ module _ {S D A : Type 0} (happened : S → List Noted → Type 0) (facts : Devi
 
   -- ---- what a call of a connection's function makes of it
 
-  pub read_on : (old new : S) (visit bytes more : List ℕ) → Adds happened (Noted.Requested n bytes) old new → more ≡ visit ++ bytes
-      → Is old (Some (Stage.Asking visit)) → Is new (Some (Stage.Asking more))
-  read_on old new visit bytes more adds is on =
-      subst (λ (l : List ℕ). Is new (Some (Stage.Asking l))) (sym is) (requested old new visit bytes adds on)
+  -- the request isn't whole yet
+  pub read_on : (old new : S) (visit bytes more : List ℕ) (since : ℕ) → Adds happened (Noted.Requested n bytes) old new → more ≡ visit ++ bytes → IsAsked [] more None
+      → Is old (Some (Stage.Asking visit since)) → Is new (Some (Stage.Asking more since))
+  read_on old new visit bytes more since adds is opens on =
+      requested old new visit bytes since (Stage.Asking more since) adds (λ b asks. (asks ∙ ap (λ (l : List ℕ). browser_asks l since) (sym is), inr opens)) on
 
-  pub read_whole : (old new : S) (visit bytes more reply unsent : List ℕ) → MayShow peers → Adds happened (Noted.Requested n bytes) old new → more ≡ visit ++ bytes
-      → AnswersBytes (shows store) more reply → unsent ≡ reply → Is old (Some (Stage.Asking visit)) → IsShown new (Some (Stage.Answering unsent))
-  read_whole old new visit bytes more reply unsent may adds is answers same on =
-      subst (λ (l : List ℕ). IsShown new (Some (Stage.Answering l))) (sym same) (replied new more reply may answers (read_on old new visit bytes more adds is on))
+  -- it is
+  pub read_whole : (old new : S) (visit bytes more : List ℕ) (since : ℕ) → Adds happened (Noted.Requested n bytes) old new → more ≡ visit ++ bytes
+      → Is old (Some (Stage.Asking visit since)) → Is new (Some (Stage.Asked more))
+  read_whole old new visit bytes more since adds is on =
+      requested old new visit bytes since (Stage.Asked more) adds (λ b asks. (since, asks ∙ ap (λ (l : List ℕ). browser_asks l since) (sym is))) on
+
+  pub answered : (sockets : S) (visit reply unsent : List ℕ) → MayShow peers → AnswersBytes (shows store) visit reply → unsent ≡ reply → Is sockets (Some (Stage.Asked visit))
+      → IsShown sockets (Some (Stage.Answering unsent))
+  answered sockets visit reply unsent may answers same on =
+      subst (λ (l : List ℕ). IsShown sockets (Some (Stage.Answering l))) (sym same) (replied sockets visit reply may answers on)
 
   pub written_on : (old new : S) (count : ℕ) (unsent bytes rest : List ℕ) → Adds happened (Noted.Shown n (take count bytes)) old new → bytes ≡ unsent
       → rest ≡ drop count unsent → Is old (Some (Stage.Answering unsent)) → Is new (Some (Stage.Answering rest))
@@ -186,15 +199,50 @@ module _ {S D A : Type 0} (happened : S → List Noted → Type 0) (facts : Devi
         on.2,
       )
 
+  -- a browser waits for a number, or none does, or its connection was closed
+  pub called : (browsers : ℕ → Option (Stage A)) (old new : S) → Adds happened Noted.Called old new → GoesOn happened facts shows start old peers browsers store
+      → (on : GoesOn happened facts shows start new peers browsers store) × ((moment start on.0).round.calls ≡ true)
+  called browsers old new adds on =
+      let before = on.1 in
+      let round = before.round in (
+        (
+          Happening.On Noted.Called ∷ on.0,
+          came_to_be (adds (noted on.0) before.logged) (tt, before.follows) before.standing before.visiting before.now_is before.places before.seats before.ended
+              (record { clock = round.clock; read_at = round.read_at; turn = round.turn; fighting = round.fighting; shares = round.shares }) before.of_one,
+          safe_on on.2,
+        ),
+        refl,
+      )
+
+  pub uncalled : (browsers : ℕ → Option (Stage A)) (old new : S) → Adds happened Noted.Uncalled old new → GoesOn happened facts shows start old peers browsers store
+      → GoesOn happened facts shows start new peers browsers store
+  uncalled browsers old new adds on =
+      let before = on.1 in (
+        Happening.On Noted.Uncalled ∷ on.0,
+        came_to_be (adds (noted on.0) before.logged) (tt, before.follows) before.standing before.visiting before.now_is before.places before.seats before.ended before.round before.of_one,
+        safe_on on.2,
+      )
+
+  pub turned_away : (browsers : ℕ → Option (Stage A)) (old new : S) → Adds happened Noted.TurnedAway old new → GoesOn happened facts shows start old peers browsers store
+      → GoesOn happened facts shows start new peers browsers store
+  turned_away browsers old new adds on =
+      let before = on.1 in
+      let round = before.round in (
+        Happening.On Noted.TurnedAway ∷ on.0,
+        came_to_be (adds (noted on.0) before.logged) (tt, before.follows) before.standing before.visiting before.now_is before.places before.seats before.ended
+            (record { clock = round.clock; read_at = round.read_at; turn = round.turn; fighting = round.fighting; shares = round.shares }) before.of_one,
+        safe_on on.2,
+      )
+
   -- a browser came to a number that was free
-  pub taken_in : (old_sockets then_sockets sockets : S) (n : ℕ) (old new : Connections A) (kept : Option (Connection A)) → IsFree old n
-      → Adds happened (Noted.Admitted n) old_sockets then_sockets → StaysAt (Stage.Asking []) kept → ClosesUnless happened n kept then_sockets sockets
+  pub taken_in : (now : ℕ) (old_sockets then_sockets sockets : S) (n : ℕ) (old new : Connections A) (kept : Option (Connection A)) → start.slots ≡ length old → peers.clock ≡ now → IsFree old n
+      → Adds happened (Noted.Admitted n) old_sockets then_sockets → StaysAt (Stage.Asking [] now) kept → ClosesUnless happened n kept then_sockets sockets
       → ComesTo n (stage_in kept) old new → GoesOn happened facts shows start old_sockets peers (stage_at old) store
       → GoesOn happened facts shows start sockets peers (stage_at new) store
-  taken_in old_sockets then_sockets sockets n old new kept free adds is closes comes on =
+  taken_in now old_sockets then_sockets sockets n old new kept slots clock free adds is closes comes on =
       same_stages sockets (instead (stage_at old) n (stage_in kept)) (stage_at new) comes.stages
-      (settled happened facts shows start peers (stage_at old) store n then_sockets sockets (Stage.Asking []) kept is closes
-      (admitted happened facts shows start peers (stage_at old) store n old_sockets then_sockets adds
+      (settled happened facts shows start peers (stage_at old) store n then_sockets sockets (Stage.Asking [] now) kept is closes
+      (admitted happened facts shows start peers (stage_at old) store n old_sockets then_sockets now (subst (λ (k : ℕ). n < k) (sym slots) free.0) clock adds
       (same_stages old_sockets (stage_at old) (instead (stage_at old) n None) (instead_kept (stage_at old) n None free.1) on)))
 
 module _ {S D A : Type 0} (happened : S → List Noted → Type 0) (facts : DeviceFacts D) (shows : Shows D) (start : Start D) (peers : PeersNow A) (store : Seen D) where

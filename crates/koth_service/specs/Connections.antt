@@ -1,10 +1,13 @@
 -- Of private contracts alone: connections of browsers by their numbers, and how they go on.
-use Rattle.std.specs.Prelude.{◌≡◌, ◌⊎◌, ⊤, ℕ, ◌<◌, ◌≤◌, Bool, true, false, List, length, Option, None, Some, Result, Ok, Err}
+use Rattle.std.specs.Prelude.{◌≡◌, ◌⊎◌, ⊤, ℕ, ◌<◌, ◌≤◌, Bool, true, false, List, length, Option, None, Some}
+use Rattle.std.specs.Prelude.{IsSome, Result, Ok, Err}
 use Rattle.std.specs.{Prelude.{Vec, slice_index_or}, declared.alloc.AllocError.AllocError}
 use Rattle.{sector_disk.specs.Facts.DeviceFacts, hill_store.specs.Seen.Seen}
 use Rattle.koth_session.specs.{Judge.fighting, Peers.may_serve_at}
 use Rattle.koth_http.specs.{Asked.IsAsked, Response.{page_response, refusal_response}, declared.refusal.Refusal.Refusal}
-use Rattle.koth_service.specs.{Noted.{Adds, Noted, Stays}, Answering.{AnswersBytes, Site}, Moment.{Start, instead}}
+use Rattle.koth_service.specs.{Noted.{Adds, Noted, Stays}, Answering.{AnswersBytes, Site}, Moment.{Start, instead, moment}}
+use Rattle.koth_service.specs.{Places.{IsLongest, longer}, Seats.{IsUnused, has_some}}
+use Rattle.koth_service.specs.declared.times.TheConstants.{UNASKED, UNHEARD}
 use Rattle.koth_service.specs.{History.Shows, Standing.{GoesOn, PeersNow, peers_of, shown_to}, declared.moves.Moved.Moved}
 use Rattle.koth_service.specs.{declared.connections.Browsers.Browsers, declared.connections.Connection.Connection}
 use Rattle.koth_service.specs.{declared.connections.Stage.Stage, declared.desk.Desk.Desk}
@@ -30,6 +33,39 @@ IsFree connections n = (n < length connections) × (stage_at connections n ≡ N
 pub record ComesTo {A : Type 0} (n : ℕ) (stage : Option (Stage A)) (old new : Connections A) : Type 0 where
   pub size : length new ≡ length old
   pub stages : (p : ℕ) → stage_at new p ≡ instead (stage_at old) n stage p
+
+-- ---- which connection is given to another browser
+
+-- since when its request comes, if its slot may be given to another
+abbrev pub LosesSlotSince : {A : Type 0} → ℕ → Stage A → Option ℕ → Type 0
+LosesSlotSince now (Stage.Asking visit since) (Some then) =
+    (then ≡ since) × IsUnused UNHEARD UNASKED now (has_some visit) since
+LosesSlotSince now (Stage.Asking visit since) None = ¬ (IsUnused UNHEARD UNASKED now (has_some visit) since)
+LosesSlotSince now (Stage.Asked visit) since = since ≡ None
+LosesSlotSince now (Stage.Answering unsent) since = since ≡ None
+LosesSlotSince now Stage.Parting since = since ≡ None
+
+-- so it is with the connection of this number
+abbrev pub LosesSlotAt : {A : Type 0} → ℕ → Connections A → ℕ → ℕ → Type 0
+LosesSlotAt now connections n since =
+    (visit : List ℕ) × (stage_at connections n ≡ Some (stages.Asking visit since))
+    × IsUnused UNHEARD UNASKED now (has_some visit) since
+
+abbrev pub longer_if : Option (ℕ × ℕ) → ℕ → Option ℕ → Option (ℕ × ℕ)
+longer_if longest n None = longest
+longer_if longest n (Some since) = longer longest n since
+
+-- no slot is free
+abbrev pub AreAllTaken : {A : Type 0} → Connections A → Type 0
+AreAllTaken connections = (p : ℕ) → p < length connections → IsSome (stage_at connections p)
+
+-- A number is given to one more that is free, or that of the connection that waited longest of those that may lose
+-- their slots. None is if there is none of either.
+abbrev pub MayGiveSlot : {A : Type 0} → Option ℕ → ℕ → Connections A → Type 0
+MayGiveSlot None now connections =
+    AreAllTaken connections × ((n since : ℕ) → ¬ (LosesSlotAt now connections n since))
+MayGiveSlot (Some n) now connections =
+    IsFree connections n ⊎ (AreAllTaken connections × IsLongest (LosesSlotAt now connections) n)
 
 -- ---- one connection
 
@@ -89,12 +125,21 @@ MovesOn {S} {D} {A} happened facts shows store n sockets stage new_sockets new_s
     → GoesOn happened facts shows start sockets peers (instead browsers n stage) store
     → GoesOn happened facts shows start new_sockets peers (instead browsers n new_stage) store
 
--- the service goes on as it did, however the peers stand
+-- the service goes on as it did, however the peers stand; the time is this one, and there are as many slots as numbers
 abbrev pub BrowsersGoOn : {S D A : Type 0} → (S → List Noted → Type 0) → DeviceFacts D → Shows D → Seen D
-    → S → Browsers A → S → Browsers A → Type 0
-BrowsersGoOn {S} {D} {A} happened facts shows store sockets browsers new_sockets new_browsers =
-    (start : Start D) (peers : PeersNow A)
+    → ℕ → S → Browsers A → S → Browsers A → Type 0
+BrowsersGoOn {S} {D} {A} happened facts shows store now sockets browsers new_sockets new_browsers =
+    (start : Start D) (peers : PeersNow A) → start.slots ≡ length browsers.connections.items → peers.clock ≡ now
     → GoesOn happened facts shows start sockets peers (stage_at browsers.connections.items) store
+    → GoesOn happened facts shows start new_sockets peers (stage_at new_browsers.connections.items) store
+
+-- the same, if a browser waits for a number
+abbrev pub TakesInCalled : {S D A : Type 0} → (S → List Noted → Type 0) → DeviceFacts D → Shows D → Seen D
+    → ℕ → S → Browsers A → S → Browsers A → Type 0
+TakesInCalled {S} {D} {A} happened facts shows store now sockets browsers new_sockets new_browsers =
+    (start : Start D) (peers : PeersNow A) → start.slots ≡ length browsers.connections.items → peers.clock ≡ now
+    → (on : GoesOn happened facts shows start sockets peers (stage_at browsers.connections.items) store)
+    → (moment start on.0).round.calls ≡ true
     → GoesOn happened facts shows start new_sockets peers (stage_at new_browsers.connections.items) store
 
 -- both, where a browser is answered, or isn't: it may be if browsers have their share
@@ -113,11 +158,21 @@ BrowsersShown {S} {D} {A} happened facts shows store may sockets browsers answer
     → GoesOn happened facts shows start new_sockets (shown_to answered peers)
     (stage_at new_browsers.connections.items) store
 
+-- the same, where the time is this one, and there are as many slots as numbers
+abbrev pub BrowsersShownAt : {S D A : Type 0} → (S → List Noted → Type 0) → DeviceFacts D → Shows D → Seen D
+    → ℕ → Bool → S → Browsers A → Bool → S → Browsers A → Type 0
+BrowsersShownAt {S} {D} {A} happened facts shows store now may sockets browsers answered new_sockets new_browsers =
+    (start : Start D) (peers : PeersNow A) → start.slots ≡ length browsers.connections.items → peers.clock ≡ now
+    → (may ≡ true → MayShow peers)
+    → GoesOn happened facts shows start sockets peers (stage_at browsers.connections.items) store
+    → GoesOn happened facts shows start new_sockets (shown_to answered peers)
+    (stage_at new_browsers.connections.items) store
+
 -- the service goes on as it did, for peers and browsers
 abbrev pub AllGoOn : {S D A : Type 0} → (S → List Noted → Type 0) → DeviceFacts D → Shows D → S → Desk D A
     → Browsers A → S → Desk D A → Browsers A → Type 0
 AllGoOn {S} {D} {A} happened facts shows sockets desk browsers new_sockets new_desk new_browsers =
-    (start : Start D)
+    (start : Start D) → start.slots ≡ length browsers.connections.items
     → GoesOn happened facts shows start sockets (peers_of desk) (stage_at browsers.connections.items) desk.judge.store
     → GoesOn happened facts shows start new_sockets (peers_of new_desk)
     (stage_at new_browsers.connections.items) new_desk.judge.store

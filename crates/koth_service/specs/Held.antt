@@ -26,6 +26,7 @@ Counts before (Happening.Reopened new ∷ older) found more =
     × AreDecided answered last found × (more ≡ None)
 Counts before (Happening.Disconnected n how ∷ older) found more = Counts before older found more
 Counts before (Happening.Replied n reply ∷ older) found more = Counts before older found more
+Counts before (Happening.Displaced n ∷ older) found more = Counts before older found more
 
 -- The store holds what the sources that count earn, each pair fought again: so it is with every image that a stop may
 -- leave. In that of a device that failed, the one more may be missing.
@@ -60,6 +61,7 @@ AreEvents (Happening.Reopened new ∷ older) events =
     × (events ≡ before ++ Event.Opened hill ∷ [])
 AreEvents (Happening.Disconnected n how ∷ older) events = AreEvents older events
 AreEvents (Happening.Replied n reply ∷ older) events = AreEvents older events
+AreEvents (Happening.Displaced n ∷ older) events = AreEvents older events
 
 -- if the service began with a store that holds what some sources earn
 pub record ServicesAreLives {D : Type 0} (facts : DeviceFacts D) (shows : Shows D) : Type 0 where

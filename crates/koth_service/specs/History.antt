@@ -3,12 +3,12 @@ use Rattle.std.specs.Prelude.{◌≡◌, ◌⊎◌, ⊤, ℕ, ◌-◌, ◌<◌, 
 use Rattle.std.specs.Prelude.{◌∷◌, ◌++◌, length, Option, None, Some, IsSome}
 use Rattle.sector_disk.specs.{Facts.DeviceFacts, Served.IsKept}
 use Rattle.hill_store.specs.{Opened.IsOpened, Seen.{Assembled, MayBeSpent, Seen}}
-use Rattle.koth_protocol.specs.Commands.{Command, Reader, commands_read}
+use Rattle.{koth_http.specs.Asked.IsAsked, koth_protocol.specs.Commands.{Command, Reader, commands_read}}
 use Rattle.koth_session.specs.{Sessions.{AreServed, IsLeftOff, KeepsCut, KeepsList}, Transcript.{Exchange, command_in}}
 use Rattle.koth_session.specs.{Peer.IsFull, Peers.IsAhead, declared.end.PeerEnd.PeerEnd}
 use Rattle.koth_service.specs.{Answering.{AnswersBytes, Site}, Noted.Noted, Session.Session}
 use Rattle.koth_service.specs.{Moment.{Happening, Moment, Start, answered, is_first, moment}, Rounds.other_than}
-use Rattle.koth_service.specs.declared.{host.HowEnded.HowEnded, times.TheConstants.{PATIENCE, UNSPOKEN, UNUSED}}
+use Rattle.koth_service.specs.declared.{host.HowEnded.HowEnded, times.TheConstants.{PATIENCE, UNASKED, UNHEARD, UNSPOKEN, UNUSED}}
 
 abbrev pub Begins : {T : Type 0} → List T → List T → Type 0
 Begins {T} short long = (rest : List T) × (long ≡ short ++ rest)
@@ -144,6 +144,20 @@ pub record Replies {D : Type 0} (shows : Shows D) (n : ℕ) (reply : List ℕ) (
   pub as_asked : AnswersBytes (shows m.now) (m.browsers n).came reply
   pub share : MayReply m
 
+-- It may be disconnected for another: it has no answer, and no byte of it came for `UNHEARD` milliseconds, or its
+-- request wasn't whole for `UNASKED`.
+pub record MayLoseSlot {D : Type 0} (shows : Shows D) (m : Moment D) (n : ℕ) : Type 0 where
+  pub there : (m.browsers n).there ≡ true
+  pub first : (m.browsers n).reply ≡ None
+  pub long : (((m.browsers n).came ≡ []) × (UNHEARD ≤ m.round.clock - (m.browsers n).since))
+      ⊎ (IsAsked (shows m.now).names (m.browsers n).came None × (UNASKED ≤ m.round.clock - (m.browsers n).since))
+
+-- all slots are taken, another browser waits, and this one may be disconnected for it
+pub record LosesSlot {D : Type 0} (shows : Shows D) (slots n : ℕ) (m : Moment D) : Type 0 where
+  pub full : (p : ℕ) → p < slots → (m.browsers p).there ≡ true
+  pub waits : m.round.calls ≡ true
+  pub may : MayLoseSlot shows m n
+
 -- ---- why a peer is disconnected
 
 -- all that it is owed went out
@@ -213,43 +227,48 @@ MayDisconnect most n how m = ((m.sessions n).there ≡ true) × IsCause most n h
 
 -- ---- what may happen then
 
--- A number that is free, and below `most`, is given to a peer; or one that is free to a browser. At most 16,777,216
--- bytes come from a peer. What goes out to a peer is the next of what it is owed, and its commands are carried out in
--- their order, one submission after the other. No wait begins while a peer that was not shut is silent for too long.
--- A peer's writing side is shut once its session has ended and all answers went out, and its socket is closed for a
--- cause. Each browser is given one answer at most, and what goes out to it is the next of that.
-abbrev pub Follows : {D : Type 0} → DeviceFacts D → Shows D → ℕ → Happening D → Moment D → Type 0
-Follows facts shows most (Happening.On (Noted.Clock t)) m = ⊤
-Follows facts shows most (Happening.On (Noted.Waited t)) m =
+-- A number that is free, and below `start.most`, is given to a peer; or one below `start.slots` to a browser. At most
+-- 16,777,216 bytes come from a peer. What goes out to a peer is the next of what it is owed, and its commands are
+-- carried out in their order, one submission after the other. No wait begins while a peer that was not shut is silent
+-- for too long. A peer's writing side is shut once its session has ended and all answers went out, and its socket is
+-- closed for a cause. Each browser is given one answer at most, and what goes out to it is the next of that. It loses
+-- its slot to another only while all are taken.
+abbrev pub Follows : {D : Type 0} → DeviceFacts D → Shows D → Start D → Happening D → Moment D → Type 0
+Follows facts shows start (Happening.On (Noted.Clock t)) m = ⊤
+Follows facts shows start (Happening.On (Noted.Waited t)) m =
     (p : ℕ) → (m.sessions p).shut ≡ false → ¬ (IsSilent p m)
-Follows facts shows most (Happening.On Noted.Arrived) m = ⊤
-Follows facts shows most (Happening.On Noted.Refused) m = ⊤
-Follows facts shows most (Happening.On (Noted.Seated n)) m = ((m.sessions n).there ≡ false) × (n < most)
-Follows facts shows most (Happening.On (Noted.Heard n bytes)) m =
+Follows facts shows start (Happening.On Noted.Arrived) m = ⊤
+Follows facts shows start (Happening.On Noted.Refused) m = ⊤
+Follows facts shows start (Happening.On (Noted.Seated n)) m = ((m.sessions n).there ≡ false) × (n < start.most)
+Follows facts shows start (Happening.On (Noted.Heard n bytes)) m =
     ((m.sessions n).there ≡ true) × (length ((m.sessions n).came ++ bytes) ≤ 16777216)
-Follows facts shows most (Happening.On (Noted.AtEnd n)) m = ⊤
-Follows facts shows most (Happening.On (Noted.Told n bytes)) m =
+Follows facts shows start (Happening.On (Noted.AtEnd n)) m = ⊤
+Follows facts shows start (Happening.On (Noted.Told n bytes)) m =
     Begins ((m.sessions n).went ++ bytes) (m.sessions n).owed
-Follows facts shows most (Happening.On (Noted.Shut n)) m = HasEnded (m.sessions n) × HasAll (m.sessions n)
-Follows facts shows most (Happening.On (Noted.Lost n)) m = ⊤
-Follows facts shows most (Happening.On (Noted.Here n)) m = ⊤
-Follows facts shows most (Happening.On (Noted.Closed n)) m = ⊥
-Follows facts shows most (Happening.On (Noted.Admitted n)) m = (m.browsers n).there ≡ false
-Follows facts shows most (Happening.On (Noted.Requested n bytes)) m = ⊤
-Follows facts shows most (Happening.On (Noted.Shown n bytes)) m =
+Follows facts shows start (Happening.On (Noted.Shut n)) m = HasEnded (m.sessions n) × HasAll (m.sessions n)
+Follows facts shows start (Happening.On (Noted.Lost n)) m = ⊤
+Follows facts shows start (Happening.On (Noted.Here n)) m = ⊤
+Follows facts shows start (Happening.On (Noted.Closed n)) m = ⊥
+Follows facts shows start (Happening.On Noted.Called) m = ⊤
+Follows facts shows start (Happening.On Noted.Uncalled) m = ⊤
+Follows facts shows start (Happening.On Noted.TurnedAway) m = ⊤
+Follows facts shows start (Happening.On (Noted.Admitted n)) m = ((m.browsers n).there ≡ false) × (n < start.slots)
+Follows facts shows start (Happening.On (Noted.Requested n bytes)) m = ⊤
+Follows facts shows start (Happening.On (Noted.Shown n bytes)) m =
     Begins ((m.browsers n).went ++ bytes) (owed_by (m.browsers n).reply)
-Follows facts shows most (Happening.On (Noted.Left n)) m = ⊤
-Follows facts shows most (Happening.Answered n e new) m = Answers facts n e new m
-Follows facts shows most (Happening.Stopped n end) m = Stops (shows m.now).steps n end m
-Follows facts shows most (Happening.Stepped n source) m = Fights n source m
-Follows facts shows most (Happening.PutOff n source) m = PutsOff n source m
-Follows facts shows most (Happening.CutOff n source new) m = Breaks facts n source new m
-Follows facts shows most (Happening.Reopened new) m = Reopens facts new m
-Follows facts shows most (Happening.Disconnected n how) m = MayDisconnect most n how m
-Follows facts shows most (Happening.Replied n reply) m = Replies shows n reply m
+Follows facts shows start (Happening.On (Noted.Left n)) m = ⊤
+Follows facts shows start (Happening.Answered n e new) m = Answers facts n e new m
+Follows facts shows start (Happening.Stopped n end) m = Stops (shows m.now).steps n end m
+Follows facts shows start (Happening.Stepped n source) m = Fights n source m
+Follows facts shows start (Happening.PutOff n source) m = PutsOff n source m
+Follows facts shows start (Happening.CutOff n source new) m = Breaks facts n source new m
+Follows facts shows start (Happening.Reopened new) m = Reopens facts new m
+Follows facts shows start (Happening.Disconnected n how) m = MayDisconnect start.most n how m
+Follows facts shows start (Happening.Replied n reply) m = Replies shows n reply m
+Follows facts shows start (Happening.Displaced n) m = LosesSlot shows start.slots n m
 
 -- each happening follows those before it
 abbrev pub IsHistory : {D : Type 0} → DeviceFacts D → Shows D → Start D → List (Happening D) → Type 0
 IsHistory facts shows start [] = ⊤
 IsHistory facts shows start (what ∷ older) =
-    Follows facts shows start.most what (moment start older) × IsHistory facts shows start older
+    Follows facts shows start what (moment start older) × IsHistory facts shows start older

@@ -7,14 +7,15 @@ use Rattle.koth_service.specs.{Noted.Noted, Session.{Browser, Session, browser_a
 use Rattle.koth_service.specs.Session.{browser_replied, browser_went}
 use Rattle.koth_service.specs.Session.{session_anew, session_answered, session_at_end, session_came, session_lost}
 use Rattle.koth_service.specs.Session.{session_over, session_put_off, session_shut, session_went}
-use Rattle.koth_service.specs.Rounds.{Round, has_share, round_after, round_anew, round_at, round_passed, round_shown}
-use Rattle.koth_service.specs.Rounds.{round_stepped, round_waited, round_waits, round_without}
+use Rattle.koth_service.specs.Rounds.{Round, has_share, round_after, round_anew, round_at, round_calls, round_passed}
+use Rattle.koth_service.specs.Rounds.{round_shown, round_stepped, round_waited, round_waits, round_without}
 use Rattle.koth_service.specs.declared.host.HowEnded.{HowEnded}
 
 -- Something happened on the sockets. A command of a peer was carried out, and this is the store then. A command that
 -- is due of a peer ended its session. A submission of a peer was begun with this source, or fought on. This source of a
 -- peer was put off, while the submission of another was under way. The device failed in a submission of a peer. The
--- hill was opened again. A peer was disconnected for this cause. Or a browser was given this answer.
+-- hill was opened again. A peer was disconnected for this cause. A browser was given this answer. Or one was
+-- disconnected for another, which is given its slot.
 pub data Happening (D : Type 0) : Type 0 where
   On : Noted → Happening D
   Answered : ℕ → Exchange → Seen D → Happening D
@@ -25,8 +26,9 @@ pub data Happening (D : Type 0) : Type 0 where
   Reopened : Seen D → Happening D
   Disconnected : ℕ → HowEnded → Happening D
   Replied : ℕ → List ℕ → Happening D
+  Displaced : ℕ → Happening D
 
--- the part of a history that was on the sockets: a peer that was disconnected had its socket closed
+-- the part of a history that was on the sockets: a peer or a browser that was disconnected had its socket closed
 abbrev pub noted : {D : Type 0} → List (Happening D) → List Noted
 noted [] = []
 noted (Happening.On what ∷ older) = what ∷ noted older
@@ -38,6 +40,7 @@ noted (Happening.CutOff n source new ∷ older) = noted older
 noted (Happening.Reopened new ∷ older) = noted older
 noted (Happening.Disconnected n how ∷ older) = Noted.Closed n ∷ noted older
 noted (Happening.Replied n reply ∷ older) = noted older
+noted (Happening.Displaced n ∷ older) = Noted.Left n ∷ noted older
 
 -- how many sessions have ended: as many as sockets of peers were closed
 abbrev pub ended_in : List Noted → ℕ
@@ -54,6 +57,9 @@ ended_in (Noted.Told n bytes ∷ older) = ended_in older
 ended_in (Noted.Shut n ∷ older) = ended_in older
 ended_in (Noted.Lost n ∷ older) = ended_in older
 ended_in (Noted.Here n ∷ older) = ended_in older
+ended_in (Noted.Called ∷ older) = ended_in older
+ended_in (Noted.Uncalled ∷ older) = ended_in older
+ended_in (Noted.TurnedAway ∷ older) = ended_in older
 ended_in (Noted.Admitted n ∷ older) = ended_in older
 ended_in (Noted.Requested n bytes ∷ older) = ended_in older
 ended_in (Noted.Shown n bytes ∷ older) = ended_in older
@@ -71,15 +77,16 @@ pub record Moment (D : Type 0) : Type 0 where
   pub first : Seen D
   pub since : List Exchange
 
--- how a service began: on which store, and how many peers it serves at once at most
+-- how a service began: on which store, and how many peers and browsers it serves at once at most
 pub record Start (D : Type 0) : Type 0 where
   pub store : Seen D
   pub most : ℕ
+  pub slots : ℕ
 
 abbrev pub beginning : {D : Type 0} → Seen D → Moment D
 beginning start = record {
   sessions = λ p. session_anew false 0;
-  browsers = λ p. browser_anew false;
+  browsers = λ p. browser_anew false 0;
   round = round_anew;
   now = start;
   first = start;
@@ -155,6 +162,10 @@ reopened new m =
 abbrev pub seated : {D : Type 0} → ℕ → Moment D → Moment D
 seated n m = with_round (round_waits false m.round) (with_session n (session_anew true m.round.clock) m)
 
+-- a browser was given a slot
+abbrev pub admitted : {D : Type 0} → ℕ → Moment D → Moment D
+admitted n m = with_round (round_calls false m.round) (with_browser n (browser_anew true m.round.clock) m)
+
 abbrev pub next : {D : Type 0} → Happening D → Moment D → Moment D
 next (Happening.On (Noted.Clock t)) m = with_round (round_at t m.round) m
 next (Happening.On (Noted.Waited t)) m = with_round (round_waited t m.round) m
@@ -168,10 +179,13 @@ next (Happening.On (Noted.Shut n)) m = with_session n (session_shut (m.sessions 
 next (Happening.On (Noted.Lost n)) m = with_session n (session_lost (m.sessions n)) m
 next (Happening.On (Noted.Here n)) m = m
 next (Happening.On (Noted.Closed n)) m = m
-next (Happening.On (Noted.Admitted n)) m = with_browser n (browser_anew true) m
+next (Happening.On Noted.Called) m = with_round (round_calls true m.round) m
+next (Happening.On Noted.Uncalled) m = m
+next (Happening.On Noted.TurnedAway) m = with_round (round_calls false m.round) m
+next (Happening.On (Noted.Admitted n)) m = admitted n m
 next (Happening.On (Noted.Requested n bytes)) m = with_browser n (browser_came bytes (m.browsers n)) m
 next (Happening.On (Noted.Shown n bytes)) m = with_browser n (browser_went bytes (m.browsers n)) m
-next (Happening.On (Noted.Left n)) m = with_browser n (browser_anew false) m
+next (Happening.On (Noted.Left n)) m = with_browser n (browser_anew false m.round.clock) m
 next (Happening.Answered n e new) m = answered n e new m
 next (Happening.Stopped n end) m = stopped n end m.now m
 next (Happening.Stepped n source) m = with_round (round_stepped (is_first n m) n m.round) m
@@ -183,6 +197,7 @@ next (Happening.Disconnected n how) m =
     with_round (round_without n m.round) (with_session n (session_anew false m.round.clock) m)
 next (Happening.Replied n reply) m =
     with_round (round_shown m.round) (with_browser n (browser_replied reply (m.browsers n)) m)
+next (Happening.Displaced n) m = with_browser n (browser_anew false m.round.clock) m
 
 -- how it stands after a history, the latest first
 abbrev pub moment : {D : Type 0} → Start D → List (Happening D) → Moment D

@@ -4,7 +4,8 @@ use Rattle.koth_service.specs.{declared.sockets.Arrival.Arrival, declared.socket
 
 -- The time was told, or it was told at the end of a wait, in milliseconds. A connection was accepted that has no
 -- number yet; it was closed. A peer was put under a number; bytes came from it; its bytes are at their end; bytes
--- went out to it; its writing side was shut; it is gone; it isn't known to be gone; its socket was closed. A browser
+-- went out to it; its writing side was shut; it is gone; it isn't known to be gone; its socket was closed. A connection
+-- of a browser was accepted that has no number yet; none waits, or its accept failed for now; it was closed. A browser
 -- was put under its number; bytes came from it; bytes went out to it; its socket was closed.
 pub data Noted : Type 0 where
   Clock : ℕ → Noted
@@ -19,6 +20,9 @@ pub data Noted : Type 0 where
   Lost : ℕ → Noted
   Here : ℕ → Noted
   Closed : ℕ → Noted
+  Called : Noted
+  Uncalled : Noted
+  TurnedAway : Noted
   Admitted : ℕ → Noted
   Requested : ℕ → List ℕ → Noted
   Shown : ℕ → List ℕ → Noted
@@ -38,11 +42,11 @@ Arrives happened old (Arrival.Peer address) new = Adds happened Noted.Arrived ol
 Arrives happened old Arrival.Nobody new = Stays happened old new
 Arrives happened old Arrival.Failed new = Stays happened old new
 
--- a browser is put under the number, if one came
-abbrev pub Admits : {S : Type 0} → (S → List Noted → Type 0) → ℕ → S → Arrival → S → Type 0
-Admits happened n old (Arrival.Peer address) new = Adds happened (Noted.Admitted n) old new
-Admits happened n old Arrival.Nobody new = Stays happened old new
-Admits happened n old Arrival.Failed new = Stays happened old new
+-- a connection of a browser arrives, if one came
+abbrev pub Visits : {S : Type 0} → (S → List Noted → Type 0) → S → Arrival → S → Type 0
+Visits happened old (Arrival.Peer address) new = Adds happened Noted.Called old new
+Visits happened old Arrival.Nobody new = Adds happened Noted.Uncalled old new
+Visits happened old Arrival.Failed new = Adds happened Noted.Uncalled old new
 
 -- what a read of a peer says is added: the bytes that came, that they are at their end, or that the peer is gone
 abbrev pub Reads : {S : Type 0} → (S → List Noted → Type 0) → ℕ → S → List ℕ → Came → S → Type 0

@@ -11,13 +11,15 @@ pub record Shares : Type 0 where
   pub shown_until : ℕ
 
 -- The time that was told last, the one that was told before it, and that at the end of the last wait; whether a
--- connection waits for a number; the numbers from which the turns go on; that of the peer whose submission is under
--- way; and the shares. What was carried out before the time was told last was begun after the time before it.
+-- connection waits for a number, and one of a browser; the numbers from which the turns go on; that of the peer whose
+-- submission is under way; and the shares. What was carried out before the time was told last was begun after the time
+-- before it.
 pub record Round : Type 0 where
   pub clock : ℕ
   pub before : ℕ
   pub read_at : ℕ
   pub waits : Bool
+  pub calls : Bool
   pub turn : Turn
   pub fighting : Option ℕ
   pub shares : Shares
@@ -32,6 +34,7 @@ round_anew = record {
   before = 0;
   read_at = 0;
   waits = false;
+  calls = false;
   turn = first_turn;
   fighting = None;
   shares = shares_anew;
@@ -51,6 +54,7 @@ round_at t r = record {
   before = r.clock;
   read_at = r.read_at;
   waits = r.waits;
+  calls = r.calls;
   turn = r.turn;
   fighting = r.fighting;
   shares = shares_at r.clock (max r.clock t) r.shares;
@@ -62,6 +66,7 @@ round_waited t r = record {
   before = r.clock;
   read_at = max r.clock t;
   waits = r.waits;
+  calls = r.calls;
   turn = r.turn;
   fighting = r.fighting;
   shares = shares_at r.clock (max r.clock t) r.shares;
@@ -74,6 +79,20 @@ round_waits is r = record {
   before = r.before;
   read_at = r.read_at;
   waits = is;
+  calls = r.calls;
+  turn = r.turn;
+  fighting = r.fighting;
+  shares = r.shares;
+}
+
+-- one of a browser does, or none
+abbrev pub round_calls : Bool → Round → Round
+round_calls is r = record {
+  clock = r.clock;
+  before = r.before;
+  read_at = r.read_at;
+  waits = r.waits;
+  calls = is;
   turn = r.turn;
   fighting = r.fighting;
   shares = r.shares;
@@ -89,6 +108,7 @@ round_shown r = record {
   before = r.before;
   read_at = r.read_at;
   waits = r.waits;
+  calls = r.calls;
   turn = r.turn;
   fighting = r.fighting;
   shares = shares_shown r.shares;
@@ -109,6 +129,7 @@ round_without n r = record {
   before = r.before;
   read_at = r.read_at;
   waits = r.waits;
+  calls = r.calls;
   turn = r.turn;
   fighting = other_than n r.fighting;
   shares = r.shares;
@@ -121,6 +142,7 @@ round_after first n r = record {
   before = r.before;
   read_at = r.read_at;
   waits = r.waits;
+  calls = r.calls;
   turn = turn_after first (n + 1) r.turn.submission r.turn;
   fighting = other_than n r.fighting;
   shares = r.shares;
@@ -136,6 +158,7 @@ round_stepped first n r = record {
   before = r.before;
   read_at = r.read_at;
   waits = r.waits;
+  calls = r.calls;
   turn = turn_after first (n + 1) (n + 1) r.turn;
   fighting = Some n;
   shares = shares_stepped r.clock r.shares;
@@ -148,6 +171,7 @@ round_passed first n r = record {
   before = r.before;
   read_at = r.read_at;
   waits = r.waits;
+  calls = r.calls;
   turn = turn_after first (n + 1) r.turn.submission r.turn;
   fighting = r.fighting;
   shares = r.shares;

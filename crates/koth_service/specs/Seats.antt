@@ -4,7 +4,7 @@ use Rattle.std.specs.Prelude.{false, not, if◌then◌else◌, List, length, Opt
 use Rattle.std.specs.List.{list_any}
 use Rattle.std.specs.declared.net.socket_addr.SocketAddr.{SocketAddr}
 use Rattle.koth_service.specs.declared.seats.{Draining.Draining, Seat.Seat}
-use Rattle.koth_service.specs.declared.times.TheConstants.{PATIENCE, UNSPOKEN, UNUSED}
+use Rattle.koth_service.specs.declared.times.TheConstants.{PATIENCE}
 
 abbrev pub Seats : Type 0
 Seats = List (Option Seat)
@@ -75,6 +75,7 @@ pub record SeatMoves (f : Seat → Seat) (n : ℕ) (old new : Seats) : Type 0 wh
 abbrev pub IsPatienceOver : ℕ → ℕ → Type 0
 IsPatienceOver now active = PATIENCE ≤ now - active
 
--- no byte came for two seconds, or neither a line nor a command was whole for sixty
-abbrev pub IsUnused : ℕ → Bool → ℕ → Type 0
-IsUnused now has_spoken useful = ((has_spoken ≡ false) × (UNSPOKEN ≤ now - useful)) ⊎ (UNUSED ≤ now - useful)
+-- no byte came for so long, or nothing whole did for longer
+abbrev pub IsUnused : ℕ → ℕ → ℕ → Bool → ℕ → Type 0
+IsUnused unspoken unused now has_spoken since =
+    ((has_spoken ≡ false) × (unspoken ≤ now - since)) ⊎ (unused ≤ now - since)

@@ -55,12 +55,12 @@ ServesPeers {S} {D} happened facts shows start connections result old new =
     happened old []
     → (history : List (Happening D)) × IsServed happened facts shows start connections result new history
 
--- how a service begins on this store, with room for this many peers, and on that of a desk
-abbrev pub start_of : {D : Type 0} → Seen D → ℕ → Start D
-start_of store most = record { store = store; most = most }
+-- how a service begins on this store, with room for this many peers and browsers, and on that of a desk
+abbrev pub start_of : {D : Type 0} → Seen D → ℕ → ℕ → Start D
+start_of store most slots = record { store = store; most = most; slots = slots }
 
 abbrev pub start_at : {D A : Type 0} → Desk D A → Start D
-start_at desk = start_of desk.judge.store (length desk.peers.slots.items)
+start_at desk = start_of desk.judge.store (length desk.peers.slots.items) desk.limits.browsers
 
 -- nobody is at the desk yet, and its store takes submissions
 pub record IsBegun {D A : Type 0} (desk : Desk D A) : Type 0 where

@@ -23,12 +23,14 @@ pub record Session : Type 0 where
   pub active : ℕ
   pub useful : ℕ
 
--- For a browser: whether it is there, what came from it, its answer once that was given, and what went out.
+-- For a browser: whether it is there, what came from it, its answer once that was given, what went out, and when it
+-- came.
 pub record Browser : Type 0 where
   pub there : Bool
   pub came : List ℕ
   pub reply : Option (List ℕ)
   pub went : List ℕ
+  pub since : ℕ
 
 -- a peer is there or not, and nothing came of it or went out yet
 abbrev pub session_anew : Bool → ℕ → Session
@@ -184,15 +186,22 @@ session_lost s = record {
 }
 
 -- a browser is there or not, and nothing came of it or went out yet
-abbrev pub browser_anew : Bool → Browser
-browser_anew is = record { there = is; came = []; reply = None; went = [] }
+abbrev pub browser_anew : Bool → ℕ → Browser
+browser_anew is now = record { there = is; came = []; reply = None; went = []; since = now }
+
+-- a browser that came then, of which these bytes came, and that was not answered
+abbrev pub browser_asks : List ℕ → ℕ → Browser
+browser_asks bytes since = record { there = true; came = bytes; reply = None; went = []; since = since }
 
 -- bytes of a browser came; it was given its answer; and bytes went out to it
 abbrev pub browser_came : List ℕ → Browser → Browser
-browser_came bytes b = record { there = b.there; came = b.came ++ bytes; reply = b.reply; went = b.went }
+browser_came bytes b =
+    record { there = b.there; came = b.came ++ bytes; reply = b.reply; went = b.went; since = b.since }
 
 abbrev pub browser_replied : List ℕ → Browser → Browser
-browser_replied reply b = record { there = b.there; came = b.came; reply = Some reply; went = b.went }
+browser_replied reply b =
+    record { there = b.there; came = b.came; reply = Some reply; went = b.went; since = b.since }
 
 abbrev pub browser_went : List ℕ → Browser → Browser
-browser_went bytes b = record { there = b.there; came = b.came; reply = b.reply; went = b.went ++ bytes }
+browser_went bytes b =
+    record { there = b.there; came = b.came; reply = b.reply; went = b.went ++ bytes; since = b.since }

@@ -2,7 +2,7 @@
 use Rattle.std.specs.Prelude.{◌≡◌, ◌⊎◌, ⊤, ℕ, ◌+◌, ◌≤◌, Bool, true, false, List, [], ◌++◌, length}
 use Rattle.std.specs.Prelude.{Option, None, Some, IsSome}
 use Rattle.{sector_disk.specs.Facts.DeviceFacts}
-use Rattle.{hill_store.specs.{Seen.Seen}, koth_protocol.specs.Commands.Reader}
+use Rattle.{hill_store.specs.{Seen.Seen}, koth_http.specs.Asked.IsAsked, koth_protocol.specs.Commands.Reader}
 use Rattle.koth_session.specs.{Judge.{Fight, fighting}, Peer.IsPeer, Peers.{IsOfOne, OnlyAt, Slots}}
 use Rattle.koth_session.specs.Peers.{is_due_in, peer_at}
 use Rattle.koth_session.specs.declared.{end.PeerEnd.PeerEnd, peer.Peer.Peer, peers.Step.Step, turns.Turn.Turn}
@@ -10,7 +10,7 @@ use Rattle.koth_service.specs.{Noted.Noted, Seats.{IsPatienceOver, OnlySeat, Sea
 use Rattle.koth_service.specs.{Moment.{Happening, Moment, Start, ended_in, moment, noted}, Rounds.{Round, Shares, shares_at}}
 use Rattle.koth_service.specs.Rounds.{shares_shown, shares_stepped}
 use Rattle.koth_service.specs.{History.{IsHistory, IsSafe, MayDisconnect, Shows, owed_by}}
-use Rattle.koth_service.specs.{Session.{Browser, Session}, declared.{connections.Stage.Stage, desk.{Desk.Desk, DeskShares.DeskShares}}}
+use Rattle.koth_service.specs.{Session.{Browser, Session, browser_asks}, declared.{connections.Stage.Stage, desk.{Desk.Desk, DeskShares.DeskShares}}}
 use Rattle.koth_service.specs.declared.{host.HowEnded.HowEnded, seats.Seat.Seat}
 
 -- how a command ended a session that ended so: another end comes when all commands were carried out
@@ -50,13 +50,15 @@ StandsAt s (Some peer) (Some seat) = Stands s peer × IsSeatOf s seat
 abbrev pub AreStanding : {A : Type 0} → (ℕ → Session) → Slots A → Seats → Type 0
 AreStanding sessions slots seats = (p : ℕ) → StandsAt (sessions p) (peer_at slots p) (seat_at seats p)
 
--- A browser's connection read what came, and was not answered; or has what is owed and did not go out; or nothing
--- more goes out to it. A number that is free has none.
+-- A browser's connection read what came, which is no whole request yet, or is one, and was not answered; or has what is
+-- owed and did not go out; or nothing more goes out to it. A number that is free has none.
 abbrev pub IsAtStage : {A : Type 0} → Browser → Option (Stage A) → Type 0
 IsAtStage b None = b.there ≡ false
-IsAtStage b (Some (Stage.Asking visit)) = b ≡ record { there = true; came = visit; reply = None; went = [] }
-IsAtStage b (Some (Stage.Answering unsent)) = b.went ++ unsent ≡ owed_by b.reply
-IsAtStage b (Some Stage.Parting) = ⊤
+IsAtStage b (Some (Stage.Asking visit since)) =
+    (b ≡ browser_asks visit since) × ((visit ≡ []) ⊎ IsAsked [] visit None)
+IsAtStage b (Some (Stage.Asked visit)) = (since : ℕ) × (b ≡ browser_asks visit since)
+IsAtStage b (Some (Stage.Answering unsent)) = (b.there ≡ true) × (b.went ++ unsent ≡ owed_by b.reply)
+IsAtStage b (Some Stage.Parting) = b.there ≡ true
 
 abbrev pub AreAtStages : {A : Type 0} → (ℕ → Browser) → (ℕ → Option (Stage A)) → Type 0
 AreAtStages browsers at = (p : ℕ) → IsAtStage (browsers p) (at p)

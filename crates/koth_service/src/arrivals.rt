@@ -2,11 +2,12 @@
 #![tactic(auto, using(crate::proofs::Told::stays))]
 
 ghost use Rattle.std.specs.Prelude.{◌≡◌, ◌↔◌, ◌+◌, IsTrue, Some};
-ghost use Rattle.koth_service.specs.{Seats.seat_at, Places.{IsLongestUpTo, MayGive, MayLeave, longer}, Standing.{KeepsOn, KeepsOnArrived}, Told.Grows};
+ghost use Rattle.koth_service.specs.{Seats.seat_at, Places.{IsLongestUpTo, MayGive, MayLeave, MayLeaveSince}, Standing.{KeepsOn, KeepsOnArrived}, Told.Grows};
 
 use crate::desk::{Desk, are_enough, let_go};
 use crate::host::{Event, Host, HowEnded};
 use crate::log::LogWrite;
+use crate::places::longer;
 use crate::seats::Seat;
 use crate::sockets::{Arrival, Sockets};
 use koth_session::NotConnected;
@@ -78,27 +79,17 @@ fn place_for_one<D: Device, A: Allocator + Copy>(desk: &Desk<D, A>) -> Place
 /// Of the peers below a number, and of this one, which has it, the one that may leave and was of use longest ago.
 fn with_longest<D: Device, A: Allocator + Copy>(
     desk: &Desk<D, A>,
-    longest: Option<(usize, Seat)>,
+    longest: Option<(usize, u64)>,
     number: usize,
     seat: Seat,
-) -> Option<(usize, Seat)>
+) -> Option<(usize, u64)>
     requires { seat_at desk.now.seats.seats.items number ≡ Some seat }
-    ensures { IsLongestUpTo number longest desk.now → IsLongestUpTo (number + 1) result desk.now }
+    ensures { IsLongestUpTo (MayLeaveSince desk.now) number longest → IsLongestUpTo (MayLeaveSince desk.now) (number + 1) result }
 {
     if may_leave(desk, number, seat) {
-        longer(longest, number, seat)
+        longer(longest, number, seat.useful)
     } else {
         longest
-    }
-}
-
-/// Of two peers with their numbers the one that was of use longer ago.
-fn longer(longest: Option<(usize, Seat)>, number: usize, seat: Seat) -> Option<(usize, Seat)>
-    ensures { result ≡ longer longest number seat }
-{
-    match longest {
-        Some((_, other)) if other.useful <= seat.useful => longest,
-        _ => Some((number, seat)),
     }
 }
 

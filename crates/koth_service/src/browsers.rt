@@ -2,30 +2,20 @@
 //! Each function says so of the connections that it moves, however the peers and the other browsers stand.
 #![tactic(auto, using(crate::proofs::Told::stays))]
 
-ghost use Rattle.std.specs.Prelude.{[], ◌≡◌, ◌&&◌, not};
-ghost use Rattle.hill_store.specs.Seen.{Seen};
-ghost use Rattle.koth_service.specs.Connections.{
-  BrowsersGoOn,
-  BrowsersShown,
-  ClosesUnless,
-  ComesTo,
-  IsFree,
-  StaysAt,
-  stage_after,
-  stage_in,
-};
+ghost use Rattle.std.specs.Prelude.{◌≡◌, ◌&&◌, not, length};
+ghost use Rattle.koth_service.specs.Connections.{BrowsersShown, BrowsersShownAt, StaysAt, stage_after};
 ghost use Rattle.koth_service.specs.Told.{Grows};
-ghost use Rattle.koth_service.specs.declared.connections.Stage.TheVariants as stages;
 
 use crate::connections::{Browsers, Connection, Stage};
 use crate::host::{Event, Host};
 use crate::log::LogWrite;
 use crate::moves::{Moved, after_stage};
-use crate::sockets::{Arrival, Sockets};
+use crate::slots::{admit, settle, tell_if};
+use crate::sockets::Sockets;
 use hill_store::Store;
-use koth_http::{Visit, status_of};
+use koth_http::status_of;
 use sector_disk::Device;
-use std::alloc::{AllocError, Allocator};
+use std::alloc::Allocator;
 use std::net::SocketAddr;
 
 /// What a round of browsers leaves to the next one.
@@ -39,11 +29,12 @@ pub(crate) struct BrowsersRound {
     pub(crate) has_answered: bool,
 }
 
-/// When connections are moved on, in milliseconds, and whether a request may be answered.
+/// When connections are moved on, in milliseconds, whether a request may be answered, and how many browsers of one address there may be.
 #[derive(Clone, Copy)]
 pub(crate) struct Pass {
     pub(crate) now: u64,
     pub(crate) may_answer: bool,
+    pub(crate) per_address: Option<u32>,
 }
 
 impl Pass {
@@ -74,10 +65,11 @@ pub(crate) fn serve_browsers<
     errors: &mut E,
     pass: Pass,
 ) -> BrowsersRound
-    ensures served { BrowsersShown S.happened D.facts (H.shows host.now) store.now pass.may_answer sockets.old browsers.old result.has_answered sockets.new browsers.new }
+    ensures served { BrowsersShownAt S.happened D.facts (H.shows host.now) store.now pass.now pass.may_answer sockets.old browsers.old result.has_answered sockets.new browsers.new }
+    ensures slots { length browsers.new.connections.items ≡ length browsers.old.connections.items }
     ensures told { Grows (E.contents errors.old) (E.contents errors.new) }
 {
-    let admitted = admit::<S, D, A, H>(browsers, sockets, pass.now);
+    let admitted = admit(browsers, sockets, host, errors, pass);
     let mut round = BrowsersRound {
         has_answered: false,
         ..admitted
@@ -95,70 +87,6 @@ pub(crate) fn serve_browsers<
     round
 }
 
-/// Takes one connection that waits, if a number is free. It is closed if there is no memory for its request.
-fn admit<S: Sockets, D: Device, A: Allocator + Copy, H: Host<D, A>>(
-    browsers: &mut Browsers<A>,
-    sockets: &mut S,
-    now: u64,
-) -> BrowsersRound
-    ensures { (store : Seen D) (host : H) → BrowsersGoOn S.happened D.facts (H.shows host) store sockets.old browsers.old sockets.new browsers.new }
-{
-    let still = BrowsersRound {
-        moved: false,
-        retries: false,
-        has_answered: false,
-    };
-    let Some(number) = browsers.free() else {
-        return still;
-    };
-    match sockets.admit_browser(number) {
-        Arrival::Peer(address) => {
-            let connection = begun(browsers.alloc, address, now);
-            settle(browsers, sockets, number, connection);
-            BrowsersRound {
-                moved: true,
-                ..still
-            }
-        }
-        Arrival::Nobody => still,
-        Arrival::Failed => BrowsersRound {
-            retries: true,
-            ..still
-        },
-    }
-}
-
-/// A connection from which nothing came yet, or none if there is no memory for its request.
-fn begun<A: Allocator + Copy>(alloc: A, address: SocketAddr, now: u64) -> Option<Connection<A>>
-    ensures { StaysAt (stages.Asking []) result }
-{
-    match Visit::new(alloc) {
-        Ok(visit) => Some(Connection {
-            address,
-            stage: Stage::Asking(visit),
-            since: now,
-        }),
-        Err(AllocError) => None,
-    }
-}
-
-/// Puts a connection under its number. Its socket is closed if there is no connection any more: then the number stays free.
-fn settle<S: Sockets, A: Allocator>(
-    browsers: &mut Browsers<A>,
-    sockets: &mut S,
-    number: usize,
-    connection: Option<Connection<A>>,
-)
-    requires { IsFree browsers.old.connections.items number }
-    ensures comes { ComesTo number (stage_in connection) browsers.old.connections.items browsers.new.connections.items }
-    ensures closes { ClosesUnless S.happened number connection sockets.old sockets.new }
-{
-    match connection {
-        Some(connection) => browsers.put(number, connection),
-        None => sockets.close_browser(number),
-    }
-}
-
 /// Moves the connection of this number on, if there is one, and returns whether anything came or went, and whether its request was answered.
 fn move_on<S: Sockets, D: Device, A: Allocator + Copy, H: Host<D, A>, E: LogWrite>(
     browsers: &mut Browsers<A>,
@@ -170,6 +98,7 @@ fn move_on<S: Sockets, D: Device, A: Allocator + Copy, H: Host<D, A>, E: LogWrit
     pass: Pass,
 ) -> BrowsersRound
     ensures served { BrowsersShown S.happened D.facts (H.shows host.now) store.now pass.may_answer sockets.old browsers.old result.has_answered sockets.new browsers.new }
+    ensures slots { length browsers.new.connections.items ≡ length browsers.old.connections.items }
     ensures told { Grows (E.contents errors.old) (E.contents errors.new) }
 {
     let Some(connection) = browsers.take(number) else {
@@ -182,8 +111,9 @@ fn move_on<S: Sockets, D: Device, A: Allocator + Copy, H: Host<D, A>, E: LogWrit
     let Connection {
         address,
         stage,
-        since,
+        until,
     } = connection;
+    let is_asking = matches!(stage, Stage::Asking(_, _));
     let moved = after_stage(
         browsers.alloc,
         sockets,
@@ -196,8 +126,10 @@ fn move_on<S: Sockets, D: Device, A: Allocator + Copy, H: Host<D, A>, E: LogWrit
     tell_request::<D, A, H, E>(&moved, address, host, errors);
     let is_still = matches!(moved, Moved::Still(_));
     let has_answered = moved.is_answered();
-    let kept = kept_after(moved, address, since, pass.now);
+    let why = moved.why_unasked();
+    let kept = kept_after(moved, address, until, pass.now);
     let is_kept = kept.is_some();
+    tell_if::<D, A, H, E>(is_asking && !is_kept, why, address, host, errors);
     settle(browsers, sockets, number, kept);
     BrowsersRound {
         moved: !(is_still && is_kept),
@@ -230,32 +162,26 @@ fn tell_request<D: Device, A: Allocator + Copy, H: Host<D, A>, E: LogWrite>(
 fn kept_after<A: Allocator>(
     moved: Moved<A>,
     address: SocketAddr,
-    since: u64,
+    until: u64,
     now: u64,
 ) -> Option<Connection<A>>
     ensures { StaysAt (stage_after moved) result }
 {
     match moved {
-        Moved::Answered(_visit, unsent) => Some(Connection {
-            address,
-            stage: Stage::Answering(unsent),
-            since: now,
-        }),
-        Moved::Next(stage) => Some(Connection {
-            address,
-            stage,
-            since: now,
-        }),
+        Moved::Answered(_visit, unsent) => {
+            Some(Connection::begun(address, Stage::Answering(unsent), now))
+        }
+        Moved::Next(stage) => Some(Connection::begun(address, stage, now)),
         Moved::On(stage) => Connection {
             address,
             stage,
-            since,
+            until,
         }
         .in_time(now),
         Moved::Still(stage) => Connection {
             address,
             stage,
-            since,
+            until,
         }
         .in_time(now),
         Moved::Over => None,

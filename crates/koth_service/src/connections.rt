@@ -1,28 +1,37 @@
 //! Connections of browsers, and how long each is waited for.
 
 ghost use Rattle.std.specs.Prelude.{◌≡◌, ℕ, ◌<◌, None, Some, length, IfOk, IfSome};
-ghost use Rattle.koth_service.specs.Connections.{ComesTo, IsFree, StaysAt, stage_at, stage_in};
+ghost use Rattle.koth_service.specs.Connections.{ComesTo, LosesSlotSince, MayGiveSlot, StaysAt, longer_if, stage_at, stage_in};
 
-use crate::times::{ANSWERING, ASKING, DRAIN};
+use crate::places::{Keeping, longer};
+use crate::times::{ANSWERING, ASKING, DRAIN, UNASKED, UNHEARD};
 use crate::unsent::Unsent;
 use koth_http::Visit;
 use std::alloc::{AllocError, Allocator};
-use std::net::SocketAddr;
+use std::net::{IpAddr, SocketAddr};
+
+/// How long a browser keeps its slot until its request is whole.
+const SLOTS: Keeping = Keeping {
+    unspoken: UNHEARD,
+    unused: UNASKED,
+};
 
 /// A connection of a browser.
 #[derive(Drop)]
 pub(crate) struct Connection<A: Allocator> {
     pub(crate) address: SocketAddr,
     pub(crate) stage: Stage<A>,
-    /// When it began this stage, in milliseconds.
-    pub(crate) since: u64,
+    /// When it is closed if it is at this stage still, in milliseconds.
+    pub(crate) until: u64,
 }
 
 /// How far a connection has come.
 #[derive(Drop)]
 pub(crate) enum Stage<A: Allocator> {
-    /// Its request comes.
-    Asking(Visit<A>),
+    /// Its request comes, since this time in milliseconds.
+    Asking(Visit<A>, u64),
+    /// Its request is whole, and waits for the share of browsers.
+    Asked(Visit<A>),
     /// Its answer goes out.
     Answering(Unsent<A>),
     /// The answer went out whole, and what still comes is thrown away.
@@ -41,7 +50,8 @@ pub(crate) struct Browsers<A: Allocator> {
 impl<A: Allocator + Copy> Browsers<A> {
     /// No connections yet, and room for `most` at once. `AllocError` comes if the growth of memory is refused.
     pub(crate) fn new(alloc: A, most: usize) -> Result<Browsers<A>, AllocError>
-        ensures { IfOk result (λ browsers. (p : ℕ) → stage_at browsers.connections.items p ≡ None) }
+        ensures nobody { IfOk result (λ browsers. (p : ℕ) → stage_at browsers.connections.items p ≡ None) }
+        ensures slots { IfOk result (λ browsers. length browsers.connections.items ≡ most) }
     {
         let mut connections = Vec::with_capacity(alloc, most)?;
         for _number in 0..most {
@@ -100,41 +110,110 @@ impl<A: Allocator> Browsers<A> {
         self.connections[number] = Some(connection);
     }
 
-    /// The least number that no connection has.
-    pub(crate) fn free(&self) -> Option<usize>
-        ensures { IfSome result (IsFree self.now.connections.items) }
+    /// The number that one more browser would be given: the least that no connection has, or if none is free, that of the connection that has
+    /// waited longest for its request, of those that may lose their slots.
+    pub(crate) fn slot_for_one(&self, now: u64) -> Option<usize>
+        ensures { MayGiveSlot result now self.now.connections.items }
     {
+        let mut longest = None;
         for number in 0..self.connections.len() {
-            if self.connections[number].is_none() {
+            let Some(connection) = &self.connections[number] else {
                 return Some(number);
-            }
+            };
+            longest = longer_if(longest, number, connection.loses_since(now));
         }
-        None
+        match longest {
+            Some((number, _)) => Some(number),
+            None => None,
+        }
     }
 
-    /// Milliseconds until the first connection has been waited for as long as it may be.
-    pub(crate) fn until(&self, now: u64) -> u64 {
-        let mut least = ANSWERING;
+    /// How many connections have an address of this host.
+    pub(crate) fn count_of(&self, host: IpAddr) -> u32 {
+        let mut count: u32 = 0;
         for connection in &self.connections {
             if let Some(connection) = connection {
-                let passed = now.saturating_sub(connection.since);
-                least = least.min(connection.stage.patience().saturating_sub(passed));
+                if connection.address.ip() == host {
+                    count = count.saturating_add(1);
+                }
             }
         }
-        least
+        count
+    }
+
+    /// Milliseconds until the first connection has been waited for as long as it may be. If no slot is free, it is no longer than until the first
+    /// one may be given to another.
+    pub(crate) fn until(&self, now: u64) -> u64 {
+        let mut least = ANSWERING;
+        let mut first_lost = ANSWERING;
+        let mut is_full = true;
+        for connection in &self.connections {
+            match connection {
+                Some(connection) => {
+                    least = least.min(connection.until.saturating_sub(now));
+                    first_lost = first_lost.min(connection.until_lost(now));
+                }
+                None => is_full = false,
+            }
+        }
+        if is_full {
+            least.min(first_lost)
+        } else {
+            least
+        }
+    }
+}
+
+/// Of two with their numbers the one that made use of its slot longer ago, if this one may lose its slot.
+fn longer_if(
+    longest: Option<(usize, u64)>,
+    number: usize,
+    since: Option<u64>,
+) -> Option<(usize, u64)>
+    ensures { result ≡ longer_if longest number since }
+{
+    match since {
+        Some(since) => longer(longest, number, since),
+        None => longest,
     }
 }
 
 impl<A: Allocator> Connection<A> {
+    /// A connection that begins this stage now.
+    pub(crate) fn begun(address: SocketAddr, stage: Stage<A>, now: u64) -> Connection<A>
+        ensures { result.stage ≡ stage }
+    {
+        Connection {
+            address,
+            until: now.saturating_add(stage.patience()),
+            stage,
+        }
+    }
+
     /// The same connection, unless it has been at its stage for too long.
     pub(crate) fn in_time(self, now: u64) -> Option<Connection<A>>
         ensures { StaysAt self.stage result }
     {
-        let passed = now.saturating_sub(self.since);
-        if passed < self.stage.patience() {
-            Some(self)
-        } else {
-            None
+        if now < self.until { Some(self) } else { None }
+    }
+
+    /// Since when its request comes, if its slot may be given to another.
+    fn loses_since(&self, now: u64) -> Option<u64>
+        ensures { LosesSlotSince now self.now.stage result }
+    {
+        match &self.stage {
+            Stage::Asking(visit, since) if SLOTS.is_over(now, !visit.is_empty(), *since) => {
+                Some(*since)
+            }
+            _ => None,
+        }
+    }
+
+    /// Milliseconds until its slot may be given to another.
+    fn until_lost(&self, now: u64) -> u64 {
+        match &self.stage {
+            Stage::Asking(visit, since) => SLOTS.until(now, !visit.is_empty(), *since),
+            Stage::Asked(_) | Stage::Answering(_) | Stage::Parting => ANSWERING,
         }
     }
 }
@@ -143,8 +222,8 @@ impl<A: Allocator> Stage<A> {
     /// Milliseconds that it may last.
     pub(crate) fn patience(&self) -> u64 {
         match self {
-            Stage::Asking(_) => ASKING,
-            Stage::Answering(_) => ANSWERING,
+            Stage::Asking(_, _) => ASKING,
+            Stage::Asked(_) | Stage::Answering(_) => ANSWERING,
             Stage::Parting => DRAIN,
         }
     }

@@ -95,7 +95,7 @@ impl<D: Device, A: Allocator + Copy> Desk<D, A> {
         D: Drop,
         requires { store.reopen ≡ false }
         ensures begun { IfOk result IsBegun }
-        ensures start { IfOk result (λ desk. start_at desk ≡ start_of store limits.peers) }
+        ensures start { IfOk result (λ desk. start_at desk ≡ start_of store limits.peers limits.browsers) }
         ensures limits { IfOk result (λ desk. desk.limits ≡ limits) }
     {
         match Peers::new(alloc, limits.peers) {
@@ -129,7 +129,7 @@ impl<D: Device, A: Allocator + Copy> Desk<D, A> {
         requires next { peers.next ≡ first_turn }
         requires sound { store.reopen ≡ false }
         ensures begun { IfOk result IsBegun }
-        ensures start { IfOk result (λ desk. start_at desk ≡ start_of store (length peers.slots.items)) }
+        ensures start { IfOk result (λ desk. start_at desk ≡ start_of store (length peers.slots.items) limits.browsers) }
         ensures limits { IfOk result (λ desk. desk.limits ≡ limits) }
     {
         match Seats::new(alloc, limits.peers) {

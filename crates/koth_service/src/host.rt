@@ -26,6 +26,22 @@ pub enum HowEnded {
     Gone,
 }
 
+/// Why a browser's connection was closed before its request was whole.
+#[derive(Clone, Copy, Debug)]
+pub enum WhyUnasked {
+    /// As many browsers of its address are there as may be.
+    Refused,
+    /// All slots were taken and another browser waited: of those from which no byte came for 0.25 seconds, or whose requests weren't whole after
+    /// 2, this one had waited longest.
+    Displaced,
+    /// Its request was not whole after 10 seconds.
+    Late,
+    /// The browser closed it, or is gone.
+    Gone,
+    /// Memory for its request ran out.
+    Memory,
+}
+
 /// What happens with a peer or a browser.
 #[derive(Clone, Copy)]
 pub enum Event<'t> {
@@ -37,6 +53,8 @@ pub enum Event<'t> {
     Ended(HowEnded),
     /// It was not served, since as many peers of its address are there as may be.
     Refused,
+    /// It is a browser, and its connection was closed before its request was whole.
+    Unasked(WhyUnasked),
     /// It is a browser, and its request is answered so. None of the answer went out yet.
     Asked {
         /// The first line of the request, without its end.

@@ -5,7 +5,7 @@
 pub struct Limits {
     /// How many peers are served at once at most.
     pub peers: usize,
-    /// How many of these may have an address of one host, if that is limited.
+    /// How many of these may have an address of one host, if that is limited, and how many of the browsers.
     pub peers_per_address: Option<u32>,
     /// How many browsers are served at once at most.
     pub browsers: usize,

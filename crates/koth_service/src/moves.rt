@@ -1,13 +1,13 @@
 //! How one connection of a browser moves on: what comes of its request, and how its answer goes out.
 #![tactic(auto, using(crate::proofs::Told::stays))]
 
-ghost use Rattle.std.specs.Prelude.{◌≡◌, Some, false, true};
+ghost use Rattle.std.specs.Prelude.{◌≡◌, ℕ, Some, false, true};
 ghost use Rattle.{hill_store.specs.Seen.Seen, koth_service.specs.Connections.{MovesOn, ShownOn, is_answered, stage_after}};
 ghost use Rattle.koth_service.specs.declared.connections.Stage.TheVariants as stages;
 
 use crate::answering::answer_visit;
 use crate::connections::Stage;
-use crate::host::Host;
+use crate::host::{Host, WhyUnasked};
 use crate::reading::CHUNK;
 use crate::sockets::{Came, Sockets, Went};
 use crate::unsent::Unsent;
@@ -38,9 +38,17 @@ impl<A: Allocator> Moved<A> {
     {
         matches!(self, Moved::Answered(_, _))
     }
+
+    /// Why a connection whose request isn't whole ends now, if it does.
+    pub(crate) fn why_unasked(&self) -> WhyUnasked {
+        match self {
+            Moved::Over => WhyUnasked::Gone,
+            _ => WhyUnasked::Late,
+        }
+    }
 }
 
-/// What becomes of a connection at this stage. While none may be answered, what comes of a request is not read.
+/// What becomes of a connection at this stage. A request is answered only if one may be.
 pub(crate) fn after_stage<S: Sockets, D: Device, A: Allocator + Copy, H: Host<D, A>>(
     alloc: A,
     sockets: &mut S,
@@ -53,11 +61,12 @@ pub(crate) fn after_stage<S: Sockets, D: Device, A: Allocator + Copy, H: Host<D,
     ensures { ShownOn S.happened D.facts (H.shows host.now) store.now may_answer number sockets.old (Some stage) (is_answered result) sockets.new (Some (stage_after result)) }
 {
     match stage {
-        Stage::Asking(visit) => {
+        Stage::Asking(visit, since) => read::<S, D, A, H>(sockets, host, number, visit, since),
+        Stage::Asked(visit) => {
             if may_answer {
-                read(alloc, sockets, store, host, number, visit)
+                answer::<S, D, A, H>(alloc, store, host, visit)
             } else {
-                Moved::Still(Stage::Asking(visit))
+                Moved::Still(Stage::Asked(visit))
             }
         }
         Stage::Answering(unsent) => write::<S, D, A, H>(sockets, number, unsent),
@@ -65,16 +74,16 @@ pub(crate) fn after_stage<S: Sockets, D: Device, A: Allocator + Copy, H: Host<D,
     }
 }
 
-/// Reads what comes of a request, and answers the request once it is whole.
-fn read<S: Sockets, D: Device, A: Allocator + Copy, H: Host<D, A>>(
-    alloc: A,
+/// Reads what comes of a request, until it is whole.
+fn read<S: Sockets, D: Device, A: Allocator, H: Host<D, A>>(
     sockets: &mut S,
-    store: &Store<D, A>,
     host: &H,
     number: usize,
     visit: Visit<A>,
+    since: u64,
 ) -> Moved<A>
-    ensures { ShownOn S.happened D.facts (H.shows host.now) store.now true number sockets.old (Some (stages.Asking visit)) (is_answered result) sockets.new (Some (stage_after result)) }
+    ensures quiet { is_answered result ≡ false }
+    ensures moves { (store : Seen D) (host : H) → MovesOn S.happened D.facts (H.shows host) store number sockets.old (Some (stages.Asking visit since)) sockets.new (Some (stage_after result)) }
 {
     let mut visit = visit;
     let mut chunk = [0; CHUNK];
@@ -82,14 +91,29 @@ fn read<S: Sockets, D: Device, A: Allocator + Copy, H: Host<D, A>>(
     match sockets.read_browser(number, bytes) {
         Came::Bytes(count) => {
             visit.take(&bytes[..count]);
-            match answer_visit(alloc, store, host, &visit) {
-                Ok(Some(answer)) => Moved::Answered(visit, Unsent::new(answer)),
-                Ok(None) => Moved::On(Stage::Asking(visit)),
-                Err(AllocError) => Moved::Over,
+            match visit.asked(host.names()) {
+                Some(_) => Moved::Next(Stage::Asked(visit)),
+                None => Moved::On(Stage::Asking(visit, since)),
             }
         }
-        Came::Nothing => Moved::Still(Stage::Asking(visit)),
+        Came::Nothing => Moved::Still(Stage::Asking(visit, since)),
         Came::End | Came::Gone => Moved::Over,
+    }
+}
+
+/// Answers a request that is whole. The connection ends if there is no memory for the answer.
+fn answer<S: Sockets, D: Device, A: Allocator + Copy, H: Host<D, A>>(
+    alloc: A,
+    store: &Store<D, A>,
+    host: &H,
+    visit: Visit<A>,
+) -> Moved<A>
+    ensures { (sockets : S) (n : ℕ) → ShownOn S.happened D.facts (H.shows host.now) store.now true n sockets (Some (stages.Asked visit)) (is_answered result) sockets (Some (stage_after result)) }
+{
+    match answer_visit(alloc, store, host, &visit) {
+        Ok(Some(answer)) => Moved::Answered(visit, Unsent::new(answer)),
+        Ok(None) => Moved::Still(Stage::Asked(visit)),
+        Err(AllocError) => Moved::Over,
     }
 }
 

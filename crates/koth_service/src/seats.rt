@@ -14,10 +14,18 @@ ghost use Rattle.koth_service.specs.Seats.{
   OnlySeat,
   SeatMoves,
 };
+ghost use Rattle.koth_service.specs.declared.times.TheConstants.{UNSPOKEN, UNUSED};
 
+use crate::places::Keeping;
 use crate::times::{DRAIN, PATIENCE, UNSPOKEN, UNUSED};
 use std::alloc::{AllocError, Allocator};
 use std::net::{IpAddr, SocketAddr};
+
+/// How long a peer keeps its place.
+const PLACES: Keeping = Keeping {
+    unspoken: UNSPOKEN,
+    unused: UNUSED,
+};
 
 /// What is known of a peer.
 #[derive(Clone, Copy)]
@@ -52,10 +60,9 @@ impl Seat {
 
     /// Whether the peer may be disconnected for another, if no command of it is due.
     pub(crate) fn is_unused(&self, now: u64) -> bool
-        ensures { IsTrue result ↔ IsUnused now self.now.has_spoken self.now.useful }
+        ensures { IsTrue result ↔ IsUnused UNSPOKEN UNUSED now self.now.has_spoken self.now.useful }
     {
-        let passed = now.saturating_sub(self.useful);
-        (!self.has_spoken && passed >= UNSPOKEN) || passed >= UNUSED
+        PLACES.is_over(now, self.has_spoken, self.useful)
     }
 
     /// Milliseconds until the peer has been waited for as long as it may be.
@@ -69,11 +76,7 @@ impl Seat {
 
     /// Milliseconds until the peer may be disconnected for another; `UNUSED` if it may be already.
     fn until_unused(&self, now: u64) -> u64 {
-        let most = if self.has_spoken { UNUSED } else { UNSPOKEN };
-        match most.saturating_sub(now.saturating_sub(self.useful)) {
-            0 => UNUSED,
-            left => left,
-        }
+        PLACES.until(now, self.has_spoken, self.useful)
     }
 }
 

@@ -1,7 +1,7 @@
 //! Round after round.
 #![tactic(auto, using(crate::proofs::Told::stays))]
 
-ghost use Rattle.std.specs.Prelude.{◌≡◌, ℕ, None, false, IfOk};
+ghost use Rattle.std.specs.Prelude.{◌≡◌, ℕ, None, false, length, IfOk};
 ghost use Rattle.koth_service.specs.{Connections.{stage_at, AllGoOn}, Services.{IsBegun, IsReopened, IsSoundAfter, IsWithoutFault, ServesPeers, start_at, start_of}, Standing.{AreAwaited, KeepsOn, KeepsOnBy}, Told.Grows};
 
 use crate::arrivals::take_arrivals;
@@ -56,7 +56,7 @@ pub fn serve_peers<S: Sockets, D: Device + Drop, A: Allocator + Copy, H: Host<D,
     errors: &mut E,
 ) -> Result<(), ServiceFault<H::Fault>>
     requires { store.reopen ≡ false }
-    ensures served { ServesPeers S.happened D.facts (H.shows host.now) (start_of store limits.peers) limits.connections result sockets.old sockets.new }
+    ensures served { ServesPeers S.happened D.facts (H.shows host.now) (start_of store limits.peers limits.browsers) limits.connections result sockets.old sockets.new }
     ensures told { Grows (E.contents errors.old) (E.contents errors.new) }
 {
     match Desk::new(alloc, limits, store) {
@@ -97,6 +97,7 @@ fn serve_rounds<S: Sockets, D: Device + Drop, A: Allocator + Copy, H: Host<D, A>
 ) -> Result<(), ServiceFault<H::Fault>>
     requires peers { IsBegun desk }
     requires browsers { (p : ℕ) → stage_at browsers.old.connections.items p ≡ None }
+    requires slots { length browsers.old.connections.items ≡ desk.limits.browsers }
     ensures served { ServesPeers S.happened D.facts (H.shows host.now) (start_at desk) connections result sockets.old sockets.new }
     ensures told { Grows (E.contents errors.old) (E.contents errors.new) }
 {
@@ -124,6 +125,7 @@ fn give_out<S: Sockets, D: Device, A: Allocator + Copy, H: Host<D, A>, E: LogWri
     errors: &mut E,
 )
     ensures served { AllGoOn S.happened D.facts (H.shows host.now) sockets.old desk.old browsers.old sockets.new desk.new browsers.new }
+    ensures slots { length browsers.new.connections.items ≡ length browsers.old.connections.items }
     ensures awaited { AreAwaited desk.new }
     ensures told { Grows (E.contents errors.old) (E.contents errors.new) }
 {
@@ -134,6 +136,7 @@ fn give_out<S: Sockets, D: Device, A: Allocator + Copy, H: Host<D, A>, E: LogWri
     let pass = Pass {
         now: desk.clock,
         may_answer,
+        per_address: desk.limits.peers_per_address,
     };
     let round = serve_browsers(browsers, sockets, desk.judge.store(), host, errors, pass);
     desk.clock = desk.clock.max(sockets.now());

@@ -1,13 +1,13 @@
 //! What sockets may say.
 
-ghost use Rattle.{std.specs.Prelude.{ℕ, List}, koth_service.specs.Noted.{Adds, Admits, Arrives, Asks, Noted, Reads, ReadsBrowser, Stays, Writes, WritesBrowser}};
+ghost use Rattle.{std.specs.Prelude.{ℕ, List}, koth_service.specs.Noted.{Adds, Arrives, Asks, Noted, Reads, ReadsBrowser, Stays, Visits, Writes, WritesBrowser}};
 
 use std::net::SocketAddr;
 
 /// What came of an accept.
 #[derive(Clone, Copy)]
 pub enum Arrival {
-    /// A peer, with its address: it is seated or refused next.
+    /// A peer or a browser, with its address: it is seated or refused next.
     Peer(SocketAddr),
     /// Nobody waits.
     Nobody,
@@ -100,10 +100,17 @@ pub trait Sockets {
     fn close(&mut self, number: usize)
         ensures { Adds Self.happened (Noted.Closed number) self.old self.new };
 
-    /// Takes a connection of a browser that waits, and puts it under this number of the browsers'. It returns the browser's address. Nothing is
-    /// put there if it failed for now.
-    fn admit_browser(&mut self, number: usize) -> Arrival
-        ensures { Admits Self.happened number self.old result self.new };
+    /// Takes a connection of a browser that waits.
+    fn accept_browser(&mut self) -> Arrival
+        ensures { Visits Self.happened self.old result self.new };
+
+    /// Puts the browser that was accepted last under this number of the browsers'.
+    fn seat_browser(&mut self, number: usize)
+        ensures { Adds Self.happened (Noted.Admitted number) self.old self.new };
+
+    /// Closes the connection of the browser that was accepted last.
+    fn refuse_browser(&mut self)
+        ensures { Adds Self.happened Noted.TurnedAway self.old self.new };
 
     /// Reads from the browser of this number.
     fn read_browser(&mut self, number: usize, bytes: &mut [u8]) -> Came

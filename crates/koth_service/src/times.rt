@@ -10,6 +10,12 @@ pub const UNSPOKEN: u64 = 2_000;
 /// another peer waits.
 pub const UNUSED: u64 = 60_000;
 
+/// How long a browser of which no byte came keeps its slot, if all slots are taken and another browser waits.
+pub const UNHEARD: u64 = 250;
+
+/// How long a browser keeps its slot until its request is whole, if all slots are taken and another browser waits.
+pub const UNASKED: u64 = 2_000;
+
 /// How long what still comes from a peer is thrown away at the end of its session.
 pub const DRAIN: u64 = 1_000;
 
@@ -22,7 +28,7 @@ pub const RETRY: u64 = 100;
 /// How long a browser may take until its request is whole.
 pub const ASKING: u64 = 10_000;
 
-/// How long a browser may take until its answer went out.
+/// How long a browser waits for its answer at most, and how long it may take until that went out.
 pub const ANSWERING: u64 = 60_000;
 
 /// How long others are served at most until a submission that is under way has its next step.

@@ -2,13 +2,13 @@
 
 ghost use Rattle.{std.specs.Prelude.⊤, koth_service.specs.Noted.Noted};
 
+use crate::door::Door;
 use crate::line::Line;
 use koth_service::{Arrival, Came, Drained, Sockets, Went};
-use mio::net::{TcpListener, TcpStream};
-use mio::{Events, Interest, Poll, Token};
+use mio::net::TcpStream;
+use mio::{Events, Poll, Token};
 use std::alloc::{AllocError, Allocator};
 use std::io;
-use std::io::ErrorKind;
 use std::net::{Net, SocketAddr};
 use std::rt::Clock;
 use std::time::{Duration, Instant};
@@ -23,7 +23,7 @@ const LISTENER: Token = Token(usize::MAX);
 /// The token of the listener of browsers.
 const PAGES: Token = Token(usize::MAX - 1);
 
-/// A listener and the sockets of peers by their numbers. No call on a socket waits.
+/// Listeners, and the sockets of peers and of browsers by their numbers. No call on a socket waits.
 #[derive(Drop)]
 pub struct PolledSockets<'r, R, A: Allocator> {
     clock: &'r R,
@@ -31,12 +31,9 @@ pub struct PolledSockets<'r, R, A: Allocator> {
     latest: u64,
     poll: Poll,
     events: Events<A>,
-    listener: TcpListener,
-    can_accept: bool,
-    accepted: Option<TcpStream>,
+    door: Door,
     lines: Vec<Option<Line>, A>,
-    pages: Option<TcpListener>,
-    can_admit: bool,
+    pages: Option<Door>,
     browsers: Vec<Option<Line>, A>,
 }
 
@@ -51,21 +48,16 @@ impl<'r, R: Net + Clock, A: Allocator + Copy> PolledSockets<'r, R, A> {
     ) -> io::Result<PolledSockets<'r, R, A>> {
         let start = Instant::now(rt)?;
         let poll = Poll::new(rt)?;
-        let mut listener = TcpListener::bind(rt, address)?;
-        poll.registry()
-            .register(&mut listener, LISTENER, Interest::READABLE)?;
+        let door = Door::bind(rt, address, poll.registry(), LISTENER)?;
         Ok(PolledSockets {
             clock: rt,
             start,
             latest: 0,
             poll,
             events: Events::with_capacity(alloc, EVENTS)?,
-            listener,
-            can_accept: true,
-            accepted: None,
+            door,
             lines: no_lines(alloc, most)?,
             pages: None,
-            can_admit: true,
             browsers: Vec::new(alloc),
         })
     }
@@ -78,12 +70,9 @@ impl<'r, R: Net + Clock, A: Allocator + Copy> PolledSockets<'r, R, A> {
         address: SocketAddr,
         most: usize,
     ) -> io::Result<()> {
-        let mut listener = TcpListener::bind(rt, address)?;
-        self.poll
-            .registry()
-            .register(&mut listener, PAGES, Interest::READABLE)?;
+        let pages = Door::bind(rt, address, self.poll.registry(), PAGES)?;
         self.browsers = no_lines(alloc, most)?;
-        self.pages = Some(listener);
+        self.pages = Some(pages);
         Ok(())
     }
 }
@@ -91,13 +80,13 @@ impl<'r, R: Net + Clock, A: Allocator + Copy> PolledSockets<'r, R, A> {
 impl<'r, R, A: Allocator> PolledSockets<'r, R, A> {
     /// The address that peers connect to.
     pub fn local_addr(&self) -> io::Result<SocketAddr> {
-        self.listener.local_addr()
+        self.door.local_addr()
     }
 
     /// The address that browsers connect to, if they can.
     pub fn pages_addr(&self) -> Option<SocketAddr> {
         match &self.pages {
-            Some(listener) => listener.local_addr().ok(),
+            Some(pages) => pages.local_addr().ok(),
             None => None,
         }
     }
@@ -113,15 +102,22 @@ impl<'r, R, A: Allocator> PolledSockets<'r, R, A> {
         for event in self.events.iter() {
             let token = event.token();
             if token == LISTENER {
-                self.can_accept = true;
+                self.door.take_event();
             } else if token == PAGES {
-                self.can_admit = true;
+                if let Some(pages) = &mut self.pages {
+                    pages.take_event();
+                }
             } else if let Some(Some(line)) = self.lines.get_mut(token.0) {
                 line.take_event(event);
             } else if let Some(line) = browser_at(&mut self.browsers, self.lines.len(), token) {
                 line.take_event(event);
             }
         }
+    }
+
+    /// The browser's connection that was accepted last.
+    fn take_browser(&mut self) -> Option<TcpStream> {
+        self.pages.as_mut()?.take()
     }
 
     fn put(&mut self, number: usize, line: Option<Line>) {
@@ -183,33 +179,18 @@ impl<'r, R: Clock, A: Allocator> Sockets for PolledSockets<'r, R, A> {
     }
 
     fn accept(&mut self) -> Arrival {
-        if !self.can_accept {
-            return Arrival::Nobody;
-        }
-        match self.listener.accept() {
-            Ok((stream, address)) => {
-                self.accepted = Some(stream);
-                Arrival::Peer(address)
-            }
-            Err(error) => match error.kind() {
-                ErrorKind::WouldBlock => {
-                    self.can_accept = false;
-                    Arrival::Nobody
-                }
-                _ => Arrival::Failed,
-            },
-        }
+        self.door.accept()
     }
 
     fn seat(&mut self, number: usize) {
-        if let Some(stream) = self.accepted.take() {
+        if let Some(stream) = self.door.take() {
             let line = Line::new(stream, self.poll.registry(), Token(number));
             self.put(number, line);
         }
     }
 
     fn refuse(&mut self) {
-        self.accepted = None;
+        drop(self.door.take());
     }
 
     fn read(&mut self, number: usize, bytes: &mut [u8]) -> Came {
@@ -250,28 +231,23 @@ impl<'r, R: Clock, A: Allocator> Sockets for PolledSockets<'r, R, A> {
         self.put(number, None);
     }
 
-    fn admit_browser(&mut self, number: usize) -> Arrival {
-        let Some(listener) = &self.pages else {
-            return Arrival::Nobody;
-        };
-        if !self.can_admit {
-            return Arrival::Nobody;
+    fn accept_browser(&mut self) -> Arrival {
+        match &mut self.pages {
+            Some(pages) => pages.accept(),
+            None => Arrival::Nobody,
         }
-        match listener.accept() {
-            Ok((stream, address)) => {
-                let token = Token(self.lines.len().saturating_add(number));
-                let line = Line::new(stream, self.poll.registry(), token);
-                self.put_browser(number, line);
-                Arrival::Peer(address)
-            }
-            Err(error) => match error.kind() {
-                ErrorKind::WouldBlock => {
-                    self.can_admit = false;
-                    Arrival::Nobody
-                }
-                _ => Arrival::Failed,
-            },
+    }
+
+    fn seat_browser(&mut self, number: usize) {
+        if let Some(stream) = self.take_browser() {
+            let token = Token(self.lines.len().saturating_add(number));
+            let line = Line::new(stream, self.poll.registry(), token);
+            self.put_browser(number, line);
         }
+    }
+
+    fn refuse_browser(&mut self) {
+        drop(self.take_browser());
     }
 
     fn read_browser(&mut self, number: usize, bytes: &mut [u8]) -> Came {

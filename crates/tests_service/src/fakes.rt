@@ -195,18 +195,23 @@ impl Sockets for Fakes<'_> {
         }
     }
 
-    fn admit_browser(&mut self, number: usize) -> Arrival {
+    fn accept_browser(&mut self) -> Arrival {
         if self.browser_fails > 0 {
             self.browser_fails = self.browser_fails.saturating_sub(1);
             return Arrival::Failed;
         }
-        let Some(place) = self.waiting(true) else {
-            return Arrival::Nobody;
-        };
-        if let Some(caller) = self.callers.get_mut(place) {
-            caller.number = Some(number);
+        match self.waiting(true) {
+            Some(place) => self.take_call(place),
+            None => Arrival::Nobody,
         }
-        self.take_call(place)
+    }
+
+    fn seat_browser(&mut self, number: usize) {
+        self.seat(number);
+    }
+
+    fn refuse_browser(&mut self) {
+        self.refuse();
     }
 
     fn read_browser(&mut self, number: usize, bytes: &mut [u8]) -> Came {

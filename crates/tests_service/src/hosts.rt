@@ -80,6 +80,7 @@ fn line_of<'m>(
         Event::Answered(reply) => answered(memory, port, reply),
         Event::Refused => told(memory, port, "refused\n"),
         Event::Ended(how) => format!(in memory; "{} {:?}\n", port, how),
+        Event::Unasked(why) => format!(in memory; "{} {:?}\n", port, why),
         Event::Asked {
             line,
             status,

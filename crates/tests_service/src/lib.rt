@@ -42,4 +42,6 @@ mod serving;
 #[cfg(test)]
 mod sessions;
 #[cfg(test)]
+mod slots;
+#[cfg(test)]
 mod streams;

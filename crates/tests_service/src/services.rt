@@ -91,8 +91,8 @@ static AN_ACCEPT_THAT_FAILS: [Cue; 7] = [
 
 static AN_ACCEPT_THAT_FAILS_DUE: [Due; 2] = [Due::Heard(7, NOBODY), Due::Closed(7, 100)];
 
-/// A browser whose request isn't there in 10 seconds is disconnected, and so is one that hasn't taken its answer in 60, and one that never closes
-/// its connection. A third one waits for a place, and a peer for none of them. The answer has a head of 392 bytes.
+/// A browser whose request isn't there in 2 seconds is disconnected if another waits, and so is one that hasn't taken its answer in 60, and one that
+/// never closes its connection. A third one waits for a slot, and a peer for none of them. The answer has a head of 392 bytes.
 static SLOW_BROWSERS: [Cue; 14] = [
     (0, Deed::Visits(7)),
     (0, Deed::Says(7, "GET / HT")),
@@ -102,7 +102,7 @@ static SLOW_BROWSERS: [Cue; 14] = [
     (1, Deed::Visits(9)),
     (1, Deed::Takes(9, ALL)),
     (1, Deed::Says(9, HILL)),
-    (9_000, Deed::Says(7, "TP/1.1\r\n")),
+    (1_000, Deed::Says(7, "TP/1.1\r\n")),
     (9_500, Deed::Calls(1)),
     (9_500, Deed::Takes(1, ALL)),
     (9_500, Deed::Says(1, "BOGUS\n")),
@@ -111,14 +111,14 @@ static SLOW_BROWSERS: [Cue; 14] = [
 ];
 
 static SLOW_BROWSERS_DUE: [Due; 9] = [
-    Due::Closed(7, 10_000),
+    Due::Closed(7, 2_000),
     Due::Heard(9, NOBODY),
-    Due::Closed(9, 11_000),
+    Due::Closed(9, 3_000),
     Due::Heard(8, "HTTP/"),
     Due::Closed(8, 60_000),
     Due::Heard(1, "BAD\n"),
     Due::Closed(1, 69_500),
-    Due::Told("7 ", &[]),
+    Due::Told("7 ", &["Displaced"]),
     Due::Told("8 ", &["GET / HTTP/1.1: 200 399"]),
 ];
 
