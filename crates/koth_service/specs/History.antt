@@ -227,12 +227,12 @@ MayDisconnect most n how m = ((m.sessions n).there ≡ true) × IsCause most n h
 
 -- ---- what may happen then
 
--- A number that is free, and below `start.most`, is given to a peer; or one below `start.slots` to a browser. At most 16,777,216
--- bytes come from a peer. What goes out to a peer is the next of what it is owed, and its commands are carried out in
--- their order, one submission after the other. No wait begins while a peer that was not shut is silent for too long.
--- A peer's writing side is shut once its session has ended and all answers went out, and its socket is closed for a
--- cause. Each browser is given one answer at most, and what goes out to it is the next of that. It loses its slot to
--- another only while all are taken.
+-- A number that is free, and below `start.most`, is given to a peer; or one below `start.slots` to a browser. At most
+-- 16,777,216 bytes come from a peer. What goes out to a peer is the next of what it is owed, and its commands are
+-- carried out in their order, one submission after the other. No wait begins while a peer that was not shut is silent
+-- for too long. A peer's writing side is shut once its session has ended and all answers went out, and its socket is
+-- closed for a cause. Each browser is given one answer at most, and what goes out to it is the next of that. It loses
+-- its slot to another only while all are taken.
 abbrev pub Follows : {D : Type 0} → DeviceFacts D → Shows D → Start D → Happening D → Moment D → Type 0
 Follows facts shows start (Happening.On (Noted.Clock t)) m = ⊤
 Follows facts shows start (Happening.On (Noted.Waited t)) m =

@@ -22,7 +22,8 @@ pub record IsLongest (May : ℕ → ℕ → Type 0) (n : ℕ) : Type 0 where
 -- of those below this number
 abbrev pub IsLongestUpTo : (ℕ → ℕ → Type 0) → ℕ → Option (ℕ × ℕ) → Type 0
 IsLongestUpTo May below None = (p since : ℕ) → p < below → ¬ (May p since)
-IsLongestUpTo May below (Some (n, since)) = May n since × ((p other : ℕ) → p < below → May p other → since ≤ other)
+IsLongestUpTo May below (Some (n, since)) =
+    May n since × ((p other : ℕ) → p < below → May p other → since ≤ other)
 
 -- ---- a peer
 

@@ -11,8 +11,9 @@ pub record Shares : Type 0 where
   pub shown_until : ℕ
 
 -- The time that was told last, the one that was told before it, and that at the end of the last wait; whether a
--- connection waits for a number, and one of a browser; the numbers from which the turns go on; that of the peer whose submission is under
--- way; and the shares. What was carried out before the time was told last was begun after the time before it.
+-- connection waits for a number, and one of a browser; the numbers from which the turns go on; that of the peer whose
+-- submission is under way; and the shares. What was carried out before the time was told last was begun after the time
+-- before it.
 pub record Round : Type 0 where
   pub clock : ℕ
   pub before : ℕ

@@ -23,7 +23,8 @@ pub record Session : Type 0 where
   pub active : ℕ
   pub useful : ℕ
 
--- For a browser: whether it is there, what came from it, its answer once that was given, what went out, and when it came.
+-- For a browser: whether it is there, what came from it, its answer once that was given, what went out, and when it
+-- came.
 pub record Browser : Type 0 where
   pub there : Bool
   pub came : List ℕ
