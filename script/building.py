@@ -20,13 +20,13 @@ CHECK_MEMORY = 2 << 20  # KiB that a check at one job takes, with some to spare
 MORE_JOBS, MOST_JOBS = 0.6, 4  # of that for each further job of a check; more than these gain little
 # processor seconds of each crate's proof at one job, on a processor of 2.5 GHz, as bench/gate prints them; by the clock four jobs take about half
 SECONDS = {
-    "war_types": 83, "redcode_text": 88, "redcode_lines": 88, "redcode_statement": 51, "redcode_copies": 102, "redcode_names": 142,
-    "redcode_expand": 285, "redcode_warnings": 105, "redcode_asm": 111, "redcode_scene": 95, "redcode_blame": 160, "redcode_diagnosis": 77,
-    "mars_words": 49, "mars_operations": 47, "mars_core": 120, "koth_match": 27, "koth_hill": 93, "koth_replay": 69, "koth_protocol": 83,
-    "koth_text": 74, "sector_disk": 82, "hill_file": 100, "hill_bytes": 89, "hill_images": 112, "hill_store": 88, "hill_look": 60,
-    "koth_session": 150, "koth_http": 42, "koth_service": 184, "koth_sockets": 95, "koth_options": 175, "koth_words": 228, "koth_json": 125,
-    "koth_views": 105, "koth_page": 83, "koth_watch": 98, "koth_commands": 140, "koth_contests": 150, "koth_files": 45, "koth_keeping": 80,
-    "koth_hills": 150, "koth_server": 220, "koth": 98,
+    "war_types": 84, "redcode_text": 77, "redcode_lines": 87, "redcode_statement": 64, "redcode_copies": 98, "redcode_names": 134,
+    "redcode_expand": 351, "redcode_warnings": 121, "redcode_asm": 139, "redcode_scene": 142, "redcode_blame": 241, "redcode_diagnosis": 145,
+    "mars_words": 30, "mars_operations": 77, "mars_core": 377, "koth_match": 29, "koth_replay": 72, "koth_hill": 123, "sector_disk": 84,
+    "hill_bytes": 76, "hill_file": 171, "hill_images": 154, "hill_store": 132, "hill_look": 90, "koth_protocol": 122, "koth_session": 268,
+    "koth_http": 57, "koth_service": 341, "koth_sockets": 141, "koth_text": 93, "koth_options": 97, "koth_words": 156, "koth_json": 144,
+    "koth_views": 161, "koth_page": 122, "koth_watch": 94, "koth_commands": 218, "koth_contests": 290, "koth_files": 168, "koth_keeping": 145,
+    "koth_hills": 165, "koth_server": 273, "koth": 105,
 }
 READING = 10  # seconds in which a check reads what was proved below
 SPEED = 1000  # bytes of a crate that was never measured, a second
