@@ -11,7 +11,7 @@ from sources import checksum, of_all, read, sum_of, tree
 PLACE, RECORD = "libexec/koth/koth", "libexec/koth/koth.txt"
 EDITORS = "redcode.tmLanguage.json", "vim/ftdetect/redcode.vim", "vim/ftplugin/redcode.vim", "vim/syntax/redcode.vim"
 TEXTS = {"koth.1": "share/man/man1/koth.1", "koth.bash": "share/bash-completion/completions/koth", "_koth": "share/zsh/site-functions/_koth"}
-TEXTS |= {name: f"share/koth/{name}" for name in EDITORS}
+TEXTS |= {name: f"share/koth/{name}" for name in (*EDITORS, "koth.nginx.conf")}
 UNITS = (".service", ".socket", ".timer")
 EXPECTED = b"/usr/local/bin/koth"  # where the units of the repository have the program
 HOMES = "/home/", "/root/", "/run/user/"  # what `ProtectHome=yes` hides from a unit
