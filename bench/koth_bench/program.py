@@ -36,6 +36,34 @@ class Arguments(argparse.ArgumentParser):
         return given
 
 
+def arguments(
+    text: str | None, places: dict[str, type] | None = None, koth: typing.Callable[[], str] | None = program,
+    **options: object,
+) -> argparse.Namespace:
+    """What a script was given, whose help is this text: words by `places`, each with its type, or `list` for any number
+    of words, and options by their defaults, `False` for a flag. A script that tries the program takes `--koth PROGRAM`
+    too, and `koth` finds that where none was given."""
+    parser = argparse.ArgumentParser(description=text, formatter_class=argparse.RawDescriptionHelpFormatter)
+    for name, kind in (places or {}).items():
+        more: dict[str, typing.Any] = {"nargs": "*"} if kind is list else {"type": kind}
+        parser.add_argument(name, metavar=name.upper(), **more)
+    if koth:
+        parser.add_argument("--koth", metavar="PROGRAM")
+    for name, default in options.items():
+        option = f"--{name.replace('_', '-')}"
+        if default is False:
+            parser.add_argument(option, action="store_true")
+        elif isinstance(default, list):
+            parser.add_argument(option, nargs="+", default=default, metavar=name.upper())
+        else:
+            parser.add_argument(option, type=str if default is None else type(default), default=default,
+                                metavar=name.upper())
+    given = parser.parse_args()
+    if koth:
+        given.koth = os.path.realpath(given.koth) if given.koth else koth()
+    return given
+
+
 def write(path: str, content: str | bytes) -> str:
     """Writes a file of this text or of these bytes, and returns its path."""
     with open(path, "wb") as file:
@@ -46,3 +74,8 @@ def write(path: str, content: str | bytes) -> str:
 def contents(path: str) -> bytes:
     with open(path, "rb") as file:
         return file.read()
+
+
+def data(name: str) -> str:
+    """A file of bench/data."""
+    return contents(f"{ROOT}/bench/data/{name}").decode()
