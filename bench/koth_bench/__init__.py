@@ -7,11 +7,11 @@ from .crates import crates
 from .hills import BOMBER, NAMES, Hill, create, warriors
 from .peer import Peer
 from .processes import PATIENCE, Result, children_seconds, kib_of, limit_memory, output_of, run, seconds_of
-from .program import NOT_TRIED, ROOT, SCRIPT, arguments, contents, write
+from .program import NOT_TRIED, ROOT, SCRIPT, arguments, contents, data, write
 from .service import Service
 
 __all__ = [
     "BOMBER", "Checks", "Hill", "NAMES", "NOT_TRIED", "PATIENCE", "Peer", "ROOT", "Result", "SCRIPT", "Service",
-    "arguments", "children_seconds", "contents", "crates", "create", "kib_of", "limit_memory", "output_of", "pmars", "run", "say",
-    "seconds_of", "warriors", "write",
+    "arguments", "children_seconds", "contents", "crates", "create", "data", "kib_of", "limit_memory", "output_of",
+    "pmars", "run", "say", "seconds_of", "warriors", "write",
 ]
