@@ -66,6 +66,7 @@ def arguments(
 
 def write(path: str, content: str | bytes) -> str:
     """Writes a file of this text or of these bytes, and returns its path."""
+    os.makedirs(os.path.dirname(path) or ".", exist_ok=True)
     with open(path, "wb") as file:
         file.write(content.encode() if isinstance(content, str) else content)
     return path
