@@ -20,22 +20,6 @@ def program() -> str:
     return os.path.realpath(found.stdout.rstrip("\n"))
 
 
-class Arguments(argparse.ArgumentParser):
-    """The arguments of a script that tries the program: its help is the text of the script, and it takes `--koth
-    PROGRAM`."""
-
-    def __init__(self, text: str | None) -> None:
-        super().__init__(description=text, formatter_class=argparse.RawDescriptionHelpFormatter)
-        self.add_argument("--koth", metavar="PROGRAM",
-                          help="the program that is tried; else the one that the script `koth` takes")
-
-    def parse(self, default: typing.Callable[[], str] = program) -> argparse.Namespace:
-        """What was given, with the path of the program. `default` finds that where none was given."""
-        given = self.parse_args()
-        given.koth = os.path.realpath(given.koth) if given.koth else default()
-        return given
-
-
 def arguments(
     text: str | None, places: dict[str, type] | None = None, koth: typing.Callable[[], str] | None = program,
     **options: object,
