@@ -20,10 +20,8 @@ def program() -> str:
     return os.path.realpath(found.stdout.rstrip("\n"))
 
 
-def arguments(
-    text: str | None, places: dict[str, type] | None = None, koth: typing.Callable[[], str] | None = program,
-    **options: object,
-) -> argparse.Namespace:
+def arguments(text: str | None, places: dict[str, type] | None = None, koth: typing.Callable[[], str] | None = program,
+              **options: object) -> argparse.Namespace:
     """What a script was given, whose help is this text: words by `places`, each with its type, or `list` for any number
     of words, and options by their defaults, `False` for a flag. A script that tries the program takes `--koth PROGRAM`
     too, and `koth` finds that where none was given."""
