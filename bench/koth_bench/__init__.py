@@ -1,2 +1,17 @@
 """What the scripts of bench share: the program, its services and peers, hills by their rules, pMARS, and one form of
 report."""
+
+from . import pmars
+from .checks import Checks, say
+from .crates import crates
+from .hills import BOMBER, NAMES, Hill, create, warriors
+from .peer import Peer
+from .processes import PATIENCE, Result, children_seconds, kib_of, limit_memory, output_of, run, seconds_of
+from .program import NOT_TRIED, ROOT, SCRIPT, arguments, contents, data, write
+from .service import Service
+
+__all__ = [
+    "BOMBER", "Checks", "Hill", "NAMES", "NOT_TRIED", "PATIENCE", "Peer", "ROOT", "Result", "SCRIPT", "Service",
+    "arguments", "children_seconds", "contents", "crates", "create", "data", "kib_of", "limit_memory", "output_of",
+    "pmars", "run", "say", "seconds_of", "warriors", "write",
+]

@@ -1,5 +1,6 @@
 """Counts what is as expected, and reports what is not."""
 
+import functools
 import os
 import subprocess
 import sys
@@ -48,6 +49,12 @@ class Checks:
             say(f"{what}: not tried: {refused}")
         except (OSError, subprocess.SubprocessError, ValueError) as failure:
             self.fault(what, repr(failure))
+
+    def trials(self, trials: typing.Mapping[str, typing.Callable[..., str]], *given: object) -> typing.NoReturn:
+        """Makes these trials with what is given, and ends the script."""
+        for what, trial in trials.items():
+            self.trial(what, functools.partial(trial, *given))
+        self.end()
 
     def end(self) -> typing.NoReturn:
         """Ends the script with the count as its last line. The status is 1 if a check failed or none was made, else 77

@@ -63,8 +63,7 @@ class Maker:
 
     def warrior(self) -> bytes:
         lines = [b"%s%s %s, %s" % (self.random.choice(OPERATIONS[:17]), self.random.choice(MODIFIERS[:9]), self.plain(),
-                                   self.plain())
-                 for _ in range(self.random.randrange(1, 101))]
+                                   self.plain()) for _ in range(self.random.randrange(1, 101))]
         lines += [b";assert " + self.claim() for _ in range(self.random.choice([0, 0, 1, 3]))]
         self.random.shuffle(lines)
         return b"\n".join(lines)

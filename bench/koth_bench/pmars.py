@@ -1,24 +1,25 @@
-"""pMARS, another program that fights warriors, and what it prints."""
+"""pMARS, another program that fights warriors, and what it prints. And what valgrind counts of either program."""
 
-import argparse
 import os
 import re
+import subprocess
 
 SEED, DISTANCE = 1, 100  # usual settings: pMARS takes the position of the first round, which is their sum
 ABSENT = "there is no pMARS, so nothing was compared with it"
+CODE = re.compile(r"(START)?\s*([A-Z]{3}\.[ABFXI]{1,2}\s+.\s*-?\d+,\s*.\s*-?\d+)\s*$")
+COUNTING = ["valgrind", "--tool=cachegrind", "--cache-sim=no", "--cachegrind-out-file=/dev/null"]
 Counts = tuple[int, int, int]  # rounds that the first warrior won, that the second one won, and ties
 
 
-def add_argument(parser: argparse.ArgumentParser, path: str | None = None) -> None:
-    """Lets a headless pMARS be named by `--pmars` or by the variable PMARS; else it is this one."""
-    default = os.environ.get("PMARS") or path
-    parser.add_argument("--pmars", default=default and os.path.abspath(default),
-                        type=lambda path: os.path.abspath(path), metavar="PROGRAM")
+def named(path: str | None) -> str | None:
+    """The path of the headless pMARS that `--pmars` or the variable PMARS names."""
+    found = path or os.environ.get("PMARS")
+    return os.path.abspath(found) if found else None
 
 
-def fight(program: str, rounds: int, first: str, second: str) -> list[str]:
+def fight(program: str, rounds: int, first: str, second: str, *more: str, position: int = SEED + DISTANCE) -> list[str]:
     """The command that fights two sources."""
-    return [program, "-b", "-k", "-r", str(rounds), "-F", str(SEED + DISTANCE), first, second]
+    return [program, "-b", "-k", *more, "-r", str(rounds), "-F", str(position), first, second]
 
 
 def counts(output: str) -> list[Counts]:
@@ -31,3 +32,20 @@ def counts_of_koth(output: str) -> list[Counts]:
     """The counts of matches of `koth fight`, whose lines begin with three numbers."""
     rows = [line.split()[:3] for line in output.splitlines()]
     return [(int(won), int(lost), int(tied)) for won, lost, tied in rows]
+
+
+def load_text(listing: str) -> list[str]:
+    """The load text of a warrior that pMARS lists."""
+    code = [found for found in map(CODE.match, listing.splitlines()) if found]
+    start = max((at for at, found in enumerate(code) if found[1]), default=0)
+    return [f"ORG {start}", *(found[2] for found in code), "END"]
+
+
+def instructions(command: list[str]) -> int | None:
+    """How many instructions of the processor a command takes, or nothing if valgrind doesn't count them."""
+    try:
+        done = subprocess.run(COUNTING + command, stdin=subprocess.DEVNULL, capture_output=True, text=True, check=False)
+    except FileNotFoundError:
+        return None
+    found = re.search(r"I +refs: +([0-9,]+)", done.stderr)
+    return int(found[1].replace(",", "")) if found and not done.returncode else None

@@ -20,24 +20,35 @@ def program() -> str:
     return os.path.realpath(found.stdout.rstrip("\n"))
 
 
-class Arguments(argparse.ArgumentParser):
-    """The arguments of a script that tries the program: its help is the text of the script, and it takes `--koth
-    PROGRAM`."""
-
-    def __init__(self, text: str | None) -> None:
-        super().__init__(description=text, formatter_class=argparse.RawDescriptionHelpFormatter)
-        self.add_argument("--koth", metavar="PROGRAM",
-                          help="the program that is tried; else the one that the script `koth` takes")
-
-    def parse(self, default: typing.Callable[[], str] = program) -> argparse.Namespace:
-        """What was given, with the path of the program. `default` finds that where none was given."""
-        given = self.parse_args()
-        given.koth = os.path.realpath(given.koth) if given.koth else default()
-        return given
+def arguments(text: str | None, places: dict[str, type] | None = None, koth: typing.Callable[[], str] | None = program,
+              **options: object) -> argparse.Namespace:
+    """What a script was given, whose help is this text: words by `places`, each with its type, or `list` for any number
+    of words, and options by their defaults, `False` for a flag. A script that tries the program takes `--koth PROGRAM`
+    too, and `koth` finds that where none was given."""
+    parser = argparse.ArgumentParser(description=text, formatter_class=argparse.RawDescriptionHelpFormatter)
+    for name, kind in (places or {}).items():
+        more: dict[str, typing.Any] = {"nargs": "*"} if kind is list else {"type": kind}
+        parser.add_argument(name, metavar=name.upper(), **more)
+    if koth:
+        parser.add_argument("--koth", metavar="PROGRAM")
+    for name, default in options.items():
+        option = f"--{name.replace('_', '-')}"
+        if default is False:
+            parser.add_argument(option, action="store_true")
+        elif isinstance(default, list):
+            parser.add_argument(option, nargs="+", default=default, metavar=name.upper())
+        else:
+            parser.add_argument(option, type=str if default is None else type(default), default=default,
+                                metavar=name.upper())
+    given = parser.parse_args()
+    if koth:
+        given.koth = os.path.realpath(given.koth) if given.koth else koth()
+    return given
 
 
 def write(path: str, content: str | bytes) -> str:
     """Writes a file of this text or of these bytes, and returns its path."""
+    os.makedirs(os.path.dirname(path) or ".", exist_ok=True)
     with open(path, "wb") as file:
         file.write(content.encode() if isinstance(content, str) else content)
     return path
@@ -46,3 +57,8 @@ def write(path: str, content: str | bytes) -> str:
 def contents(path: str) -> bytes:
     with open(path, "rb") as file:
         return file.read()
+
+
+def data(name: str) -> str:
+    """A file of bench/data."""
+    return contents(f"{ROOT}/bench/data/{name}").decode()

@@ -18,18 +18,14 @@ LOGGED = re.compile(r"\S+ 127\.0\.0\.1:(\d+): (.*)")
 class Service:
     """A service on a hill, at ports that the system has chosen. With `--http` among the flags it has pages, too."""
 
-    def __init__(
-        self, koth: str, hill: str, *flags: str, folder: str | None = None, log: int = subprocess.PIPE,
-        before: typing.Sequence[str] = (), memory: int | None = None,
-    ) -> None:
+    def __init__(self, koth: str, hill: str, *flags: str, folder: str | None = None, log: int = subprocess.PIPE,
+                 before: typing.Sequence[str] = (), memory: int | None = None) -> None:
         """Starts it, and waits until it listens. `log` is where its standard error goes, `before` what stands before
         the command, and `memory` the KiB that the script `koth` lets it have. Raises `OSError` if it ends instead."""
         environment = {**os.environ, **({"KOTH_MEMORY": str(memory)} if memory else {})}
-        self.process = subprocess.Popen(
-            [*before, koth, "serve", hill, "--port", "0",
-             *flags], cwd=folder, stdin=subprocess.DEVNULL, stdout=subprocess.PIPE,
-            stderr=log, text=True, env=environment,
-        )
+        self.process = subprocess.Popen([*before, koth, "serve", hill, "--port", "0", *flags], cwd=folder,
+                                        stdin=subprocess.DEVNULL, stdout=subprocess.PIPE, stderr=log, text=True,
+                                        env=environment)
         line = self.process.stdout.readline() if self.process.stdout else ""
         if not line.startswith("LISTENING "):
             log_of_it = self.process.communicate(timeout=PATIENCE)[1]

@@ -1,0 +1,28 @@
+//! One dispatch over the kinds of instructions that have a handler of their own. Written by `bench/kinds`.
+
+ghost use Rattle.mars_core.specs.{Code.addresses, Passes.{IsAt, IsExecuted}};
+
+use crate::handlers::{arm, general};
+@IMPORTED@
+use mars_operations::Core;
+use mars_operations::effect::Queued;
+use mars_words::{Size, Word};
+use std::alloc::Allocator;
+
+/// Executes the instruction that was read, by one jump to its handler.
+#[inline(always)]
+#[tactic(auto, unfolding(mars_words::specs::Kinds::kinds))]
+pub(crate) fn handled<const SIDE: u64, A: Allocator>(
+    core: &mut Core<A>,
+    size: Size,
+    pc: u32,
+    i: Word,
+) -> Queued
+    requires at { IsAt size core.old pc i.instr }
+    ensures { IsExecuted size core.old core.new pc (addresses result) }
+{
+    match i.handler() {
+@ARMS@
+        _ => general::<SIDE, A>(core, size, pc, i),
+    }
+}
