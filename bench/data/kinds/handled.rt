@@ -9,7 +9,8 @@ use mars_operations::effect::Queued;
 use mars_words::{Size, Word};
 use std::alloc::Allocator;
 
-/// Executes the instruction that was read, by one jump to its handler.
+/// Executes the instruction that was read, whose handler isn't 0, by one jump to its handler. The compiler leaves out
+/// the last arm, since all numbers below 64 were named.
 #[inline(always)]
 #[tactic(auto, unfolding(mars_words::specs::Kinds::kinds))]
 pub(crate) fn handled<const SIDE: u64, A: Allocator>(
@@ -23,6 +24,6 @@ pub(crate) fn handled<const SIDE: u64, A: Allocator>(
 {
     match i.handler() {
 @ARMS@
-        _ => general::<SIDE, A>(core, size, pc, i),
+        _ => general::<2, A>(core, size, pc, i),
     }
 }

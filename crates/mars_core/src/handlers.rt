@@ -14,7 +14,8 @@ use std::alloc::Allocator;
 
 /// Executes the instruction at `pc` without limits, in a core of `size` cells, by the handler of its kind. SIDE is for
 /// the compiler alone: each side then has a place of its own in the program, and each handler is called from one place
-/// and written out there.
+/// and written out there. So is the test for 0: by it the compiler takes the general way for one that is often gone, and
+/// writes out its arms too. It makes one jump of both.
 #[inline(always)]
 pub(crate) fn dispatched<const SIDE: u64, A: Allocator>(
     core: &mut Core<A>,
@@ -27,7 +28,11 @@ pub(crate) fn dispatched<const SIDE: u64, A: Allocator>(
     ensures { IsExecuted size core.old core.new pc (addresses result) }
 {
     let i = fetched(core, size, pc);
-    handled::<SIDE, A>(core, size, pc, i)
+    if i.handler() == 0 {
+        general::<SIDE, A>(core, size, pc, i)
+    } else {
+        handled::<SIDE, A>(core, size, pc, i)
+    }
 }
 
 /// The instruction at `pc`.
