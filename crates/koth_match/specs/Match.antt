@@ -1,5 +1,5 @@
--- A match of two warriors: in each of its rounds one side wins, or it is a tie (scores are counted as pMARS does; who moves
--- first is this project's own).
+-- A match of two warriors: in each of its rounds one side wins, or it is a tie (scores are counted as pMARS does; who
+-- moves first is this project's own).
 use Rattle.std.specs.{Prelude.{ℕ, zero, suc, ◌+◌, ◌*◌, ◌%◌, ◌≡◌, ◌≤◌, ◌==◌, Bool, true, false, if◌then◌else◌, List, map, count_by}, List.range_with_len}
 use Rattle.{war_types.specs.{declared.settings.RawSettings.RawSettings, Warrior.WarriorParts}, mars_core.specs.{declared.round.Side.Side, declared.round.Outcome.Outcome}}
 use Rattle.{mars_core.specs.Round.{opening, after_turns, outcome}, koth_match.specs.{declared.bout.Bout.Bout, declared.rounds.Match.Match, Seeds.{position, seed_of_round, IsSeed}}}

@@ -1,5 +1,5 @@
--- The seeds of a match's rounds, and the position of the younger warrior (pMARS, "Placement"; that every match begins with
--- the settings' seed is this project's own).
+-- The seeds of a match's rounds, and the position of the younger warrior (pMARS, "Placement"; that every match begins
+-- with the settings' seed is this project's own).
 use Rattle.std.specs.Prelude.{ℕ, ◌+◌, ◌-◌, ◌*◌, ◌^◌, ◌%◌, ◌≤◌}
 use Rattle.war_types.specs.declared.settings.RawSettings.{RawSettings}
 

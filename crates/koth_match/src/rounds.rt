@@ -31,8 +31,9 @@ impl Match {
         }
     }
 
-    /// Plays the next `most` rounds, or fewer if the match has no more, and counts how they end. The older warrior is loaded at address 0
-    /// in each of them. No memory is taken. (Never inlined: `bench/matches` counts its calls in the program.)
+    /// Plays the next `most` rounds, or fewer if the match has no more, and counts how they end. The older warrior is
+    /// loaded at address 0 in each of them. No memory is taken. (Never inlined: `bench/matches` counts its calls in the
+    /// program.)
     #[inline(never)]
     pub fn play<A: Allocator, B: Allocator, C: Allocator>(
         &mut self,

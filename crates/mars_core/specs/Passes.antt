@@ -42,7 +42,8 @@ abbrev pub round_after : Bool → Side → RawSettings → List Instr → List �
 round_after false m s core mover others used = round_at m s core mover others used
 round_after true m s core mover others used = round_at (other m) s core others mover used
 
--- the turns that passes leave unmade: two of each pass that wasn't begun, and the second one of a pass whose first turn was the last
+-- the turns that passes leave unmade: two of each pass that wasn't begun, and the second one of a pass whose first turn
+-- was the last
 abbrev pub turns_left : Bool → ℕ → ℕ
 turns_left false passes = 2 * passes
 turns_left true passes = 2 * passes + 1

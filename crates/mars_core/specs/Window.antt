@@ -1,4 +1,5 @@
--- Of the code alone: the processes of a side while many turns are made, those of next turns and the latest ones in an array beside its queue.
+-- Of the code alone: the processes of a side while many turns are made, those of next turns and the latest ones in an
+-- array beside its queue.
 use Rattle.std.specs.Prelude.{◌≡◌, ℕ, ◌+◌, ◌-◌, ◌<◌, ◌≤◌, min, Bool, true, false, List, ◌∷◌, length}
 use Rattle.mars_core.specs.{declared.window.Window.Window, Queue.{Processes, processes, waiting, behind_front}, Round.is_empty}
 

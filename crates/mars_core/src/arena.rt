@@ -36,7 +36,8 @@ impl<A: Allocator> Model for Arena<A> {
 
     ghost view = { λ a. round_in a.settings a.core a.first.addresses a.second.addresses a.to_move a.used };
 
-    ghost invariant = { λ a. IsArena (round_in a.settings a.core a.first.addresses a.second.addresses a.to_move a.used) a.first.limit a.second.limit };
+    ghost invariant = { λ a. IsArena (round_in a.settings a.core a.first.addresses a.second.addresses a.to_move a.used)
+        a.first.limit a.second.limit };
 }
 
 impl<A: Allocator + Copy> Arena<A> {
@@ -196,7 +197,8 @@ impl<A: Allocator> Arena<A> {
     /// The addresses of the cells that the next turn may change, some maybe twice. All other cells keep what they hold.
     /// `None` if the round is over.
     pub fn touchable(&self) -> Option<[u16; 8]>
-        ensures same { MatchOption result (is_over self.now ≡ true) (λ addresses. (is_over self.now ≡ false) × AreSameBut addresses self.now.core (after_turn self.now).core) }
+        ensures same { MatchOption result (is_over self.now ≡ true)
+            (λ addresses. (is_over self.now ≡ false) × AreSameBut addresses self.now.core (after_turn self.now).core) }
         ensures addresses { IfSome result (λ addresses. All (λ a. a < self.now.settings.core) addresses) }
     {
         if self.is_over() {

@@ -13,8 +13,8 @@ use mars_operations::effect::Queued;
 use mars_words::{Size, Word};
 use std::alloc::Allocator;
 
-/// Executes the instruction that was read, whose handler isn't 0, by one jump to its handler. The compiler leaves out the
-/// last arm, since all numbers below 64 were named.
+/// Executes the instruction that was read, whose handler isn't 0, by one jump to its handler. The compiler leaves out
+/// the last arm, since all numbers below 64 were named.
 #[inline(always)]
 #[tactic(auto, unfolding(mars_words::specs::Kinds::kinds))]
 pub(crate) fn handled<const SIDE: u64, A: Allocator>(

@@ -14,8 +14,8 @@ use std::alloc::Allocator;
 
 /// Executes the instruction at `pc` without limits, in a core of `size` cells, by the handler of its kind. SIDE is for
 /// the compiler alone: each side then has a place of its own in the program, and each handler is called from one place
-/// and written out there. So is the test for 0: by it the compiler takes the general way for one that is often gone, and
-/// writes out its arms too. It makes one jump of both.
+/// and written out there. So is the test for 0: by it the compiler takes the general way for one that is often gone,
+/// and writes out its arms too. It makes one jump of both.
 #[inline(always)]
 pub(crate) fn dispatched<const SIDE: u64, A: Allocator>(
     core: &mut Core<A>,
@@ -86,8 +86,9 @@ fn operand_by<const MODE: u64, A: Allocator>(
     evaluate(core, size, pc, mode_at(MODE), number)
 }
 
-/// The effect of an operation and a modifier that the compiler knows. SIDE and PLACE, a number below 64 of a handler and
-/// above of an arm without one, are for the compiler alone: so each is called from one place, and written out there.
+/// The effect of an operation and a modifier that the compiler knows. SIDE and PLACE, a number below 64 of a handler
+/// and above of an arm without one, are for the compiler alone: so each is called from one place, and written out
+/// there.
 #[inline]
 fn effect_by<const SIDE: u64, const PLACE: u64, const OPERATION: u64, A: Allocator>(
     core: &mut Core<A>,
@@ -103,7 +104,8 @@ fn effect_by<const SIDE: u64, const PLACE: u64, const OPERATION: u64, A: Allocat
     requires a_numbers { HasNumbersBelow size a.register.instr }
     requires b { b.target < size }
     requires b_numbers { HasNumbersBelow size b.register.instr }
-    ensures value { effect size pc (op_at (OPERATION / 8)) (modifier_at (OPERATION % 8)) (operand_of a) (operand_of b) core.old ≡ queues core.new (addresses result) }
+    ensures value { effect size pc (op_at (OPERATION / 8)) (modifier_at (OPERATION % 8)) (operand_of a)
+        (operand_of b) core.old ≡ queues core.new (addresses result) }
     ensures core { IsCore size core.new }
     ensures addresses { All (λ a. a < size) (addresses result) }
 {
@@ -147,7 +149,8 @@ pub(crate) fn pair<
     requires numbers { HasNumbersBelow size i.instr }
     requires modes { MODES ≡ modes_code i.instr }
     requires parts { modes_of MODES ≡ (A_MODE, B_MODE) }
-    ensures value { whole_operands size core.old pc i.instr ≡ evaluated_both (operand_of result.0) (operand_of result.1) core.new }
+    ensures value { whole_operands size core.old pc i.instr
+        ≡ evaluated_both (operand_of result.0) (operand_of result.1) core.new }
     ensures core { IsCore size core.new }
     ensures a { result.0.pointer < size }
     ensures a_numbers { HasNumbersBelow size result.0.register.instr }
@@ -178,7 +181,8 @@ pub(crate) fn effect_of<const SIDE: u64, const PLACE: u64, const OPERATION: u64,
     requires b { b.target < size }
     requires b_numbers { HasNumbersBelow size b.register.instr }
     requires operation { OPERATION ≡ same_operation (operation_code i.instr) }
-    ensures value { effect size pc i.instr.op i.instr.modifier (operand_of a) (operand_of b) core.old ≡ queues core.new (addresses result) }
+    ensures value { effect size pc i.instr.op i.instr.modifier (operand_of a) (operand_of b) core.old
+        ≡ queues core.new (addresses result) }
     ensures core { IsCore size core.new }
     ensures addresses { All (λ a. a < size) (addresses result) }
 {
@@ -202,7 +206,8 @@ pub(crate) fn effect_of_any<A: Allocator>(
     requires a_numbers { HasNumbersBelow size a.register.instr }
     requires b { b.target < size }
     requires b_numbers { HasNumbersBelow size b.register.instr }
-    ensures value { effect size pc i.instr.op i.instr.modifier (operand_of a) (operand_of b) core.old ≡ queues core.new (addresses result) }
+    ensures value { effect size pc i.instr.op i.instr.modifier (operand_of a) (operand_of b) core.old
+        ≡ queues core.new (addresses result) }
     ensures core { IsCore size core.new }
     ensures addresses { All (λ a. a < size) (addresses result) }
 {

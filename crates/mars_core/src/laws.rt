@@ -2,7 +2,8 @@
 
 ghost use Rattle.mars_core.specs.Laws.{LawOfLimits};
 
-/// Under limits of the core size a turn is the turn without limits: an operand then reads and writes anywhere in the core.
+/// Under limits of the core size a turn is the turn without limits: an operand then reads and writes anywhere in the
+/// core.
 pub fn laws_of_limits()
     ensures { LawOfLimits }
 {}

@@ -10,12 +10,13 @@ use std::alloc::Allocator;
 use std::marker::Model;
 use war_types::Mode;
 
-/// How far operands reach. One of the two kinds below is chosen once for a round, so a round without limits pays for none.
+/// How far operands reach. One of the two kinds below is chosen once for a round, so a round without limits pays for
+/// none.
 pub(crate) trait Limits: Copy {
     /// The limits, and the size of their core.
     ghost reach: { Self → Reach };
 
-    /// Evaluates the operands of an instruction that stands at `pc`.
+    /// Evaluates the operands of an instruction that is at `pc`.
     fn operands<A: Allocator>(
         self,
         core: &mut Core<A>,
@@ -27,7 +28,8 @@ pub(crate) trait Limits: Copy {
         requires core { IsCore size core.old }
         requires pc { pc < size }
         requires numbers { HasNumbersBelow size i.instr }
-        ensures value { operands (reach self) core.old pc i.instr ≡ evaluated_both (operand_of result.0) (operand_of result.1) core.new }
+        ensures value { operands (reach self) core.old pc i.instr
+            ≡ evaluated_both (operand_of result.0) (operand_of result.1) core.new }
         ensures core { IsCore size core.new }
         ensures a { result.0.pointer < size }
         ensures a_numbers { HasNumbersBelow size result.0.register.instr }
@@ -56,7 +58,7 @@ impl Limits for Whole {
     }
 }
 
-/// Evaluates the operands of an instruction that stands at `pc`: A wholly before B.
+/// Evaluates the operands of an instruction that is at `pc`: A wholly before B.
 #[inline(always)]
 fn whole_operands<A: Allocator>(
     core: &mut Core<A>,
@@ -67,7 +69,8 @@ fn whole_operands<A: Allocator>(
     requires core { IsCore size core.old }
     requires pc { pc < size }
     requires numbers { HasNumbersBelow size i.instr }
-    ensures value { whole_operands size core.old pc i.instr ≡ evaluated_both (operand_of result.0) (operand_of result.1) core.new }
+    ensures value { whole_operands size core.old pc i.instr
+        ≡ evaluated_both (operand_of result.0) (operand_of result.1) core.new }
     ensures core { IsCore size core.new }
     ensures a { result.0.pointer < size }
     ensures a_numbers { HasNumbersBelow size result.0.register.instr }
@@ -252,7 +255,8 @@ impl Within {
         requires pc { pc < size }
         requires read { p.read < size }
         requires write { p.write < size }
-        ensures value { predecremented self core.old pc (field_of field) (pointers_of p) ≡ evaluated (operand_of result) core.new }
+        ensures value { predecremented self core.old pc (field_of field) (pointers_of p)
+            ≡ evaluated (operand_of result) core.new }
         ensures core { IsCore size core.new }
         ensures pointer { result.pointer < size }
         ensures target { result.target < size }
@@ -277,7 +281,8 @@ impl Within {
         requires pc { pc < size }
         requires read { p.read < size }
         requires write { p.write < size }
-        ensures value { postincremented self core.old pc (field_of field) (pointers_of p) ≡ evaluated (operand_of result) core.new }
+        ensures value { postincremented self core.old pc (field_of field) (pointers_of p)
+            ≡ evaluated (operand_of result) core.new }
         ensures core { IsCore size core.new }
         ensures pointer { result.pointer < size }
         ensures target { result.target < size }

@@ -20,7 +20,8 @@ pub(crate) fn by_modes<const SIDE: u64, A: Allocator>(
     requires core { IsCore size core.old }
     requires pc { pc < size }
     requires numbers { HasNumbersBelow size i.instr }
-    ensures value { whole_operands size core.old pc i.instr ≡ evaluated_both (operand_of result.0) (operand_of result.1) core.new }
+    ensures value { whole_operands size core.old pc i.instr
+        ≡ evaluated_both (operand_of result.0) (operand_of result.1) core.new }
     ensures core { IsCore size core.new }
     ensures a { result.0.pointer < size }
     ensures a_numbers { HasNumbersBelow size result.0.register.instr }

@@ -36,7 +36,8 @@ pub(crate) fn by_operation<const SIDE: u64, A: Allocator>(
     requires a_numbers { HasNumbersBelow size a.register.instr }
     requires b { b.target < size }
     requires b_numbers { HasNumbersBelow size b.register.instr }
-    ensures value { effect size pc i.instr.op i.instr.modifier (operand_of a) (operand_of b) core.old ≡ queues core.new (addresses result) }
+    ensures value { effect size pc i.instr.op i.instr.modifier (operand_of a) (operand_of b) core.old
+        ≡ queues core.new (addresses result) }
     ensures core { IsCore size core.new }
     ensures addresses { All (λ a. a < size) (addresses result) }
 {

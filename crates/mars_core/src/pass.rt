@@ -35,7 +35,8 @@ pub(crate) fn passes<A: Allocator>(
     ensures first_limit { first.new.limit ≡ first.old.limit }
     ensures second_limit { second.new.limit ≡ second.old.limit }
     ensures left { result.0 ≤ 2 * most }
-    ensures after { (s : RawSettings) (used : ℕ) → reach_of s ≡ whole size → s.processes ≡ first.old.limit → s.processes ≡ second.old.limit
+    ensures after { (s : RawSettings) (used : ℕ) → reach_of s ≡ whole size → s.processes ≡ first.old.limit
+        → s.processes ≡ second.old.limit
         → used + 2 * most ≤ 2 * s.cycles
         → after_turns (2 * most) (round_in s core.old first.old.addresses second.old.addresses to_move used)
         ≡ round_in s core.new first.new.addresses second.new.addresses result.1 (used + (2 * most - result.0)) }
@@ -84,10 +85,12 @@ fn alternate<A: Allocator>(
     ensures others_limit { others.new.limit ≡ others.old.limit }
     ensures left { result.0 ≤ most }
     ensures odd { result.1 ≡ true → result.0 < most }
-    ensures after { (m : Side) (s : RawSettings) (used : ℕ) → reach_of s ≡ whole size → s.processes ≡ mover.old.limit → s.processes ≡ others.old.limit
+    ensures after { (m : Side) (s : RawSettings) (used : ℕ) → reach_of s ≡ whole size → s.processes ≡ mover.old.limit
+        → s.processes ≡ others.old.limit
         → used + 2 * most ≤ 2 * s.cycles
         → after_turns (2 * most) (round_at m s core.old mover.old.addresses others.old.addresses used)
-        ≡ round_after result.1 m s core.new mover.new.addresses others.new.addresses (used + (2 * most - turns_left result.1 result.0)) }
+        ≡ round_after result.1 m s core.new mover.new.addresses others.new.addresses
+        (used + (2 * most - turns_left result.1 result.0)) }
 {
     let mut own_places = Window::places();
     let mut other_places = Window::places();
@@ -130,7 +133,8 @@ fn turn_of<const SIDE: u64, A: Allocator>(
     requires queue { IsQueue size queue.old.limit (held window.old places.old queue.old).addresses }
     ensures core { IsCore size core.new }
     ensures window { IsWindow window.new places.new queue.new }
-    ensures turn { IsTurnMade size core.old core.new (held window.old places.old queue.old) (left_by result (held window.new places.new queue.new)) }
+    ensures turn { IsTurnMade size core.old core.new (held window.old places.old queue.old)
+        (left_by result (held window.new places.new queue.new)) }
     ensures empty { result ≡ is_empty (left_by result (held window.new places.new queue.new)).addresses }
 {
     match dispatched::<SIDE, A>(core, size, window.front()) {

@@ -8,14 +8,16 @@ use mars_words::{Field, Size};
 use std::alloc::Allocator;
 use war_types::Mode;
 
-/// The addresses of the cells that the process at `pc` may write, within the limit `write`: its own, those that its operands go through,
-/// and those to which the B operand may lead on. It leads on by a number of a cell that the operands themselves may raise or lower before.
+/// The addresses of the cells that the process at `pc` may write, within the limit `write`: its own, those that its
+/// operands go through, and those to which the B operand may lead on. It leads on by a number of a cell that the
+/// operands themselves may raise or lower before.
 pub(crate) fn touchable<A: Allocator>(core: &Core<A>, size: Size, write: u32, pc: u32) -> [u16; 8]
     requires core { IsCore size core.now }
     requires pc { pc < size }
     requires write_least { 1 ≤ write }
     requires write_most { write ≤ size }
-    ensures same { (reach : Reach) → reach.size ≡ size → reach.write ≡ write → AreSameBut result core.now (executed reach core.now pc).core }
+    ensures same { (reach : Reach) → reach.size ≡ size → reach.write ≡ write
+        → AreSameBut result core.now (executed reach core.now pc).core }
     ensures addresses { All (λ a. a < size) result }
 {
     let i = core.cell(size, pc);

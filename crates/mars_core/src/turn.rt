@@ -57,11 +57,13 @@ pub(crate) fn turns<L: Limits, A: Allocator>(
     ensures first_limit { first.new.limit ≡ first.old.limit }
     ensures second_limit { second.new.limit ≡ second.old.limit }
     ensures left { result.left ≤ most }
-    ensures after { (s : RawSettings) (used : ℕ) → reach_of s ≡ L.reach limits → s.processes ≡ first.old.limit → s.processes ≡ second.old.limit
+    ensures after { (s : RawSettings) (used : ℕ) → reach_of s ≡ L.reach limits → s.processes ≡ first.old.limit
+        → s.processes ≡ second.old.limit
         → used + most ≤ 2 * s.cycles
         → after_turns most (round_in s core.old first.old.addresses second.old.addresses to_move used)
         ≡ round_in s core.new first.new.addresses second.new.addresses result.to_move (used + (most - result.left)) }
-    ensures last { (s : RawSettings) (used : ℕ) → reach_of s ≡ L.reach limits → s.processes ≡ first.old.limit → s.processes ≡ second.old.limit
+    ensures last { (s : RawSettings) (used : ℕ) → reach_of s ≡ L.reach limits → s.processes ≡ first.old.limit
+        → s.processes ≡ second.old.limit
         → used + most ≤ 2 * s.cycles → most ≡ 1
         → result.last ≡ turned (round_in s core.old first.old.addresses second.old.addresses to_move used) }
 {

@@ -7,7 +7,7 @@ use mars_operations::{MIDDLE, PLACES, Queue};
 use std::alloc::Allocator;
 
 /// The front process of a side while many turns are made, and how its `places`, an array, hold `count` others. The
-/// first of these stand from `head` on to the end of the places, the last ones from the beginning of the places on. All
+/// first of these are from `head` on to the end of the places, the last ones from the beginning of the places on. All
 /// between them are in the side's queue, which is touched only where `head` is at the end or the places are full.
 #[derive(Clone, Copy)]
 pub(crate) struct Window {
@@ -65,7 +65,9 @@ impl Window {
         requires small { address ≤ 65535 }
         ensures window { IsWindow self.new places.new queue.new }
         ensures past { 1 ≤ self.new.head }
-        ensures value { held self.new places.new queue.new ≡ queued (processes queue.old.limit (behind_front (held self.old places.old queue.old).addresses)) (address ∷ []) }
+        ensures value { held self.new places.new queue.new
+            ≡ queued (processes queue.old.limit (behind_front (held self.old places.old queue.old).addresses))
+            (address ∷ []) }
     {
         self.reach(places, queue);
         places[(self.head + self.count) & (PLACES - 1)] = address as u16;
@@ -86,7 +88,9 @@ impl Window {
         requires small { address ≤ 65535 }
         requires small_behind { behind ≤ 65535 }
         ensures window { IsWindow self.new places.new queue.new }
-        ensures value { held self.new places.new queue.new ≡ queued (processes queue.old.limit (behind_front (held self.old places.old queue.old).addresses)) (address ∷ behind ∷ []) }
+        ensures value { held self.new places.new queue.new
+            ≡ queued (processes queue.old.limit (behind_front (held self.old places.old queue.old).addresses))
+            (address ∷ behind ∷ []) }
     {
         self.follow(places, queue, address);
         if self.count < self.room {
@@ -109,7 +113,8 @@ impl Window {
         ensures window { IsWindow self.new places.new queue.new }
         ensures last { result ≡ is_empty (behind_front (held self.old places.old queue.old).addresses) }
         ensures kept { result ≡ true → held self.new places.new queue.new ≡ held self.old places.old queue.old }
-        ensures value { result ≡ false → held self.new places.new queue.new ≡ processes queue.old.limit (behind_front (held self.old places.old queue.old).addresses) }
+        ensures value { result ≡ false → held self.new places.new queue.new
+            ≡ processes queue.old.limit (behind_front (held self.old places.old queue.old).addresses) }
     {
         self.reach(places, queue);
         if self.count == 0 {

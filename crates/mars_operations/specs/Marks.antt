@@ -15,8 +15,8 @@ is_marked bits = (word_in bits).is_marked
 abbrev pub IsListed : ℕ → ℕ → ℕ → List ℕ → Type 0
 IsListed at first last written = (place : ℕ) × (first ≤ place) × (place < last) × (slice_index written place ≡ at)
 
--- what holds of a core's cells and of the list of those that were written, whose first `count` places count: a cell that isn't marked
--- is blank, a marked one is listed, and there are as many marked ones as are listed
+-- what holds of a core's cells and of the list of those that were written, whose first `count` places count: a cell
+-- that isn't marked is blank, a marked one is listed, and there are as many marked ones as are listed
 pub record AreCells (cells written : List ℕ) (count : ℕ) : Type 0 where
   pub small : length cells ≤ 65535
   pub room : length written ≡ length cells

@@ -22,7 +22,7 @@ pub enum Queued {
     Two(u32, u32),
 }
 
-/// Executes an instruction of this operation and modifier that stands at `pc`, once its operands are evaluated, in a
+/// Executes an instruction of this operation and modifier that is at `pc`, once its operands are evaluated, in a
 /// core of `size` cells.
 #[inline(always)]
 pub fn effect<A: Allocator>(
@@ -41,7 +41,8 @@ pub fn effect<A: Allocator>(
     requires a_numbers { HasNumbersBelow size a.register.instr }
     requires b { b.target < size }
     requires b_numbers { HasNumbersBelow size b.register.instr }
-    ensures value { effect size pc op modifier (operand_of a) (operand_of b) core.old ≡ queues core.new (addresses result) }
+    ensures value { effect size pc op modifier (operand_of a) (operand_of b) core.old
+        ≡ queues core.new (addresses result) }
     ensures core { IsCore size core.new }
     ensures addresses { All (λ a. a < size) (addresses result) }
 {
@@ -89,7 +90,8 @@ fn calculates<A: Allocator>(
     requires a_numbers { HasNumbersBelow size a.register.instr }
     requires b { b.target < size }
     requires b_numbers { HasNumbersBelow size b.register.instr }
-    ensures value { calculates size pc (arithmetic_of arithmetic) modifier (operand_of a) (operand_of b) core.old ≡ queues core.new (addresses result) }
+    ensures value { calculates size pc (arithmetic_of arithmetic) modifier (operand_of a) (operand_of b) core.old
+        ≡ queues core.new (addresses result) }
     ensures core { IsCore size core.new }
     ensures addresses { All (λ a. a < size) (addresses result) }
 {

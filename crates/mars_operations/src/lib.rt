@@ -2,7 +2,7 @@
 //!
 //! `cells` are those of a core, each a word of 64 bits, and it lists those that were written. An `operand` is evaluated
 //! on them without limits. An operation has its `effect` then: MOV is in `copying`, and what others read and make of
-//! numbers in `registers`. It queues addresses in a side's `queue`, and an array beside that may hold some of its
+//! numbers in `registers`. It queues addresses in a side's `queue`, and an array next to that may hold some of its
 //! processes while many turns are made.
 //!
 //! The main clauses: `evaluate` gives the `operand` of the definition without limits, and `effect` the core and the

@@ -7,13 +7,13 @@ use circular_buffer::HeapCircularBuffer;
 use std::alloc::{AllocError, Allocator};
 use std::marker::Model;
 
-/// The number of places of an array beside a queue.
+/// The number of places of an array next to a queue.
 pub const PLACES: usize = 1024;
 /// The place of the first process that is fetched from a queue.
 pub const MIDDLE: usize = 512;
 
 /// The processes of a side, by their addresses: first in, first out, in memory that is taken once. The front process
-/// stands beside a ring of the others. While many turns are made, an array beside the queue holds some of these.
+/// is next to a ring of the others. While many turns are made, an array next to the queue holds some of these.
 #[derive(Drop)]
 pub struct Queue<A: Allocator> {
     /// The front process, if there is one.
@@ -131,7 +131,8 @@ impl<A: Allocator> Queue<A> {
         requires some { is_empty self.old.addresses ≡ false }
         requires small { address ≤ 65535 }
         requires small_behind { behind ≤ 65535 }
-        ensures value { self.new ≡ queued (processes self.old.limit (behind_front self.old.addresses)) (address ∷ behind ∷ []) }
+        ensures value { self.new ≡ queued (processes self.old.limit (behind_front self.old.addresses))
+            (address ∷ behind ∷ []) }
         ensures some { is_empty self.new.addresses ≡ false }
     {
         self.follow(address);
@@ -165,7 +166,8 @@ impl<A: Allocator> Queue<A> {
         requires places { length places.old ≡ 1024 }
         requires count { count ≤ 1024 }
         requires room { count + length self.old.addresses ≤ self.old.limit }
-        ensures value { waiting 512 result places.new (behind_front self.new.addresses) ≡ waiting 1024 count places.old (behind_front self.old.addresses) }
+        ensures value { waiting 512 result places.new (behind_front self.new.addresses)
+            ≡ waiting 1024 count places.old (behind_front self.old.addresses) }
         ensures places { length places.new ≡ 1024 }
         ensures count { result ≤ 512 }
         ensures full { 1 < length self.new.addresses → result ≡ 512 }
@@ -177,8 +179,8 @@ impl<A: Allocator> Queue<A> {
         self.rest.read_into(&mut places[MIDDLE..])
     }
 
-    /// Queues `behind` after the `count` addresses that stand in the places from `head` on, if there is room: first
-    /// those that stand round their end. Answers how many stay there.
+    /// Queues `behind` after the `count` addresses that are in the places from `head` on, if there is room: first
+    /// those that are round their end. Answers how many stay there.
     #[cold]
     #[inline(never)]
     pub fn take_in(
@@ -195,7 +197,9 @@ impl<A: Allocator> Queue<A> {
         requires past { 1024 ≤ head + count }
         requires room { count + length self.old.addresses ≤ self.old.limit }
         requires small { behind ≤ 65535 }
-        ensures value { waiting head result places.now (behind_front self.new.addresses) ≡ take (self.old.limit - 1) (waiting head count places.now (behind_front self.old.addresses) ++ behind ∷ []) }
+        ensures value { waiting head result places.now (behind_front self.new.addresses)
+            ≡ take (self.old.limit - 1) (waiting head count places.now (behind_front self.old.addresses) ++ behind
+            ∷ []) }
         ensures count { result ≤ count }
         ensures past { 1024 ≤ head + result }
         ensures room { result + length self.new.addresses ≤ self.new.limit }
@@ -211,7 +215,7 @@ impl<A: Allocator> Queue<A> {
         count - past
     }
 
-    /// Puts back what a window took: the front process, and `count` others that stand in the places from `head` on.
+    /// Puts back what a window took: the front process, and `count` others that are in the places from `head` on.
     pub fn put_back(&mut self, places: &[u16; PLACES], front: u32, head: usize, count: usize)
         requires lives { is_empty self.old.addresses ≡ false }
         requires places { length places.now ≡ 1024 }
@@ -219,7 +223,8 @@ impl<A: Allocator> Queue<A> {
         requires count { count ≤ 1024 }
         requires room { count + length self.old.addresses ≤ self.old.limit }
         requires small { front ≤ 65535 }
-        ensures { self.new ≡ processes self.old.limit (front ∷ waiting head count places.now (behind_front self.old.addresses)) }
+        ensures { self.new ≡ processes self.old.limit
+            (front ∷ waiting head count places.now (behind_front self.old.addresses)) }
     {
         let end = (head + count).min(PLACES);
         self.rest.fill_from_slice(&places[..head + count - end]);

@@ -20,7 +20,8 @@ pub(crate) fn calculated(
     requires a { HasNumbersBelow size a.instr }
     requires b { HasNumbersBelow size b.instr }
     requires target { HasNumbersBelow size target.instr }
-    ensures target { result.0.instr ≡ calculated size (arithmetic_of arithmetic) a.instr b.instr (pairs modifier) target.instr }
+    ensures target { result.0.instr ≡ calculated size (arithmetic_of arithmetic) a.instr b.instr
+        (pairs modifier) target.instr }
     ensures all { result.1 ≡ have_values size (arithmetic_of arithmetic) a.instr b.instr (pairs modifier) }
     ensures numbers { HasNumbersBelow size result.0.instr }
 {

@@ -81,8 +81,9 @@ handler_at kind = place_from (same_kind kind) 0 kinds
 abbrev pub handler_of : Instr → ℕ
 handler_of i = handler_at (kind_code i)
 
--- the bits of a word: from the lowest on the B number and the A number, 16 each, the B mode, the A mode and the modifier, 3 each, the
--- operation, 4, then from bit 57 on the number of its handler, 6, and the mark as the highest of all
+-- the bits of a word: from the lowest on the B number and the A number, 16 each, the B mode, the A mode and the
+-- modifier, 3 each, the operation, 4, then from bit 57 on the number of its handler, 6, and the mark as the highest of
+-- all
 abbrev pub bits_of : Word → ℕ
 bits_of w =
     w.instr.b + w.instr.a * 2 ^ 16 + mode_code w.instr.b_mode * 2 ^ 32 + mode_code w.instr.a_mode * 2 ^ 35

@@ -1,6 +1,6 @@
 //! The kinds of instructions that have a handler of their own. Written by `bench/kinds`.
 
-/// Each kind at the place of its handler; at place 0 stands none.
+/// Each kind at the place of its handler; at place 0 is none.
 pub(crate) const KINDS: [u16; 64] = [
     8192, 3597, 7177, 9, 7173, 951, 919, 3593, 7181, 911, 7168, 45, 7193, 909, 945, 7197, 5391,
     1153, 7169, 7172, 907, 4681, 3596, 5192, 1289, 0, 898, 3599, 941, 905, 6537, 1801, 934, 5389,
@@ -11,7 +11,7 @@ pub(crate) const KINDS: [u16; 64] = [
 /// No two kinds have the same slot: the kind times this, divided by 256, modulo 256.
 pub(crate) const MULTIPLIER: u64 = 4645;
 
-/// The place of each kind in `KINDS` at its slot. Elsewhere stands 0.
+/// The place of each kind in `KINDS` at its slot. Elsewhere is 0.
 pub(crate) const PLACES: [u8; 256] = [
     25, 0, 0, 0, 0, 0, 0, 57, 42, 0, 0, 0, 10, 0, 0, 0, 34, 0, 37, 0, 0, 0, 27, 35, 47, 16, 15, 0,
     0, 0, 18, 0, 38, 0, 6, 0, 29, 0, 0, 0, 0, 0, 43, 0, 0, 0, 0, 46, 11, 0, 32, 0, 0, 0, 50, 0, 44,

@@ -23,7 +23,7 @@ const HANDLER: u32 = 57;
 
 const MARK: u32 = 63;
 
-/// An instruction, and the mark of a cell that was written since its core was cleared. The B number stands from bit 0
+/// An instruction, and the mark of a cell that was written since its core was cleared. The B number is from bit 0
 /// on, the A number from bit 16 on, then the B mode, the A mode, the modifier and the operation; from bit 57 on the
 /// number of its handler. The mark is the highest bit.
 #[derive(Clone, Copy)]
@@ -65,7 +65,7 @@ impl Word {
         Word { bits }
     }
 
-    /// The bits, as they stand in a cell.
+    /// The bits, as they are in a cell.
     #[inline(always)]
     pub fn bits(self) -> u64
         ensures value { word_in result ≡ self }
