@@ -1,7 +1,7 @@
 -- How a session over two streams ends by a command, and what was answered before it.
 use Rattle.std.proofs.{Common.{◌≡◌, inl, inr, ℕ, arith, List, [], ◌∷◌, ◌++◌, length, take, Option, None, Some, refl, sym, ap, subst, append-nil}, KnownBytes.{Appends-nil, Appends-trans, Consumes-trans, Keeps-refl}}
 use Rattle.{std.specs.Io.KnownBytes.{Appends, Consumes}, koth_hill.specs.Kept.Kept, sector_disk.specs.{Facts.DeviceFacts, Served.IsKept}, sector_disk.proofs.Kept.{kept_on, kept_same}}
-use Rattle.{hill_store.specs.Seen.Seen, koth_protocol.specs.Commands.Command, koth_session.specs.Peer.{AnswersPeer, IsFull}}
+use Rattle.{hill_store.specs.Seen.{MayBeSpent, Seen}, koth_protocol.specs.Commands.Command, koth_session.specs.{Peer.{AnswersPeer, IsFull}, Within.{EndsFirst, EndsSoWithin}}}
 use Rattle.koth_session.specs.Sessions.{AnswersCommand, AnswersFirst, AreServed, EndsSo, IsAnsweredTo, Scene, scene}
 use Rattle.koth_session.specs.{Streams.end_of, Transcript.{Exchange, answer, transcript}, declared.end.PeerEnd.PeerEnd, declared.sessions.SessionEnd.SessionEnd}
 use Rattle.koth_session.proofs.Exchanges.{served_none, served_on, transcript_append}
@@ -17,6 +17,11 @@ full_shows (Command.Submit source) hill unsent none full = let size = ap length 
 full_shows Command.Show hill unsent none full = refl
 full_shows Command.Quit hill unsent none full = absurd full
 full_shows Command.Bad hill unsent none full = let size = ap length none in absurd (omega (arith, full, size))
+
+-- a command that ended its peer's session ended this one so; without an end it is a source that may spend the steps, and changed nothing
+abbrev pub AnswersEnd : {D : Type 0} → DeviceFacts D → Option ℕ → Command → Option SessionEnd → Scene D → Scene D → Type 0
+AnswersEnd facts steps command (Some end) old new = AnswersCommand facts command (Some end) old new
+AnswersEnd facts steps command None old new = (source : List ℕ) × (command ≡ Command.Submit source) × MayBeSpent steps source × (new ≡ old)
 
 module _ {D : Type 0} (facts : DeviceFacts D) where
   pub answered_none : (s : Scene D) → IsAnsweredTo facts s s []
@@ -34,17 +39,17 @@ module _ {D : Type 0} (facts : DeviceFacts D) where
   }
 
   -- a command that ended its peer's session
-  pub ended_so : (end : PeerEnd) (command : Command) (old new : Seen D) (unsent unsent_new : List ℕ) (output : Option (List ℕ)) → unsent ≡ []
-      → AnswersPeer facts None command (Some end) unsent old unsent_new new
-      → AnswersCommand facts command (Some (end_of end)) (scene output old) (scene output new)
-  ended_so PeerEnd.Quit command old new unsent unsent_new output none is = (is.0, is.1, Keeps-refl output)
-  ended_so PeerEnd.EndOfInput command old new unsent unsent_new output none is = absurd is
-  ended_so PeerEnd.Limit command old new unsent unsent_new output none is = absurd is
-  ended_so PeerEnd.Unread command old new unsent unsent_new output none is =
+  pub ended_so : (steps : Option ℕ) (end : PeerEnd) (command : Command) (old new : Seen D) (unsent unsent_new : List ℕ) (output : Option (List ℕ)) → unsent ≡ []
+      → AnswersPeer facts steps command (Some end) unsent old unsent_new new
+      → AnswersEnd facts steps command (end_of end) (scene output old) (scene output new)
+  ended_so steps PeerEnd.Quit command old new unsent unsent_new output none is = (is.0, is.1, Keeps-refl output)
+  ended_so steps PeerEnd.EndOfInput command old new unsent unsent_new output none is = absurd is
+  ended_so steps PeerEnd.Limit command old new unsent unsent_new output none is = absurd is
+  ended_so steps PeerEnd.Unread command old new unsent unsent_new output none is =
       (full_shows command old.hill unsent none is.0, is.1, Keeps-refl output)
-  ended_so PeerEnd.StepsSpent command old new unsent unsent_new output none is = absurd is.2
-  ended_so PeerEnd.StoreFailed command old new unsent unsent_new output none is = (is.0, is.1, is.2, Keeps-refl output)
-  ended_so PeerEnd.Memory command old new unsent unsent_new output none is =
+  ended_so steps PeerEnd.StepsSpent command old new unsent unsent_new output none is = (is.0, is.1, is.2, ap (λ (s : Seen D). scene output s) is.3)
+  ended_so steps PeerEnd.StoreFailed command old new unsent unsent_new output none is = (is.0, is.1, is.2, Keeps-refl output)
+  ended_so steps PeerEnd.Memory command old new unsent unsent_new output none is =
       (elim is.0 [ inl shows ↦ shows | inr some ↦ absurd (some none) ], is.1, Keeps-refl output)
 
   -- the device is handed on
@@ -70,5 +75,17 @@ module _ {D : Type 0} (facts : DeviceFacts D) where
   ends_by SessionEnd.StoreFailed taken left a c is = is
   ends_by SessionEnd.Memory taken left a c is = inr is
 
-  pub never_read : (taken : List ℕ) (end : SessionEnd) (a c : Scene D) → AnswersFirst facts taken end a c → end ≡ SessionEnd.ReadFault → ⊥
-  never_read taken end a c is same = subst (λ e. AnswersCommand facts is.command (Some e) is.last c) same is.ended
+  -- the same within steps
+
+  pub kept_within : (steps : Option ℕ) (taken : List ℕ) (end : Option SessionEnd) (a c : Scene D) → EndsFirst facts steps taken end a c → IsKept facts a.store.device c.store.device
+  kept_within steps taken (Some end) a c is = kept_first taken end a c is
+  kept_within steps taken None a c is = is.answered.served.kept
+
+  pub ends_within : (steps : Option ℕ) (end : Option SessionEnd) (taken : List ℕ) (left : Option (List ℕ)) (a c : Scene D) → EndsFirst facts steps taken end a c
+      → EndsSoWithin facts steps end taken left a c
+  ends_within steps (Some end) taken left a c is = ends_by end taken left a c is
+  ends_within steps None taken left a c is = is
+
+  pub never_read : (steps : Option ℕ) (taken : List ℕ) (end : Option SessionEnd) (a c : Scene D) → EndsFirst facts steps taken end a c → end ≡ Some SessionEnd.ReadFault → ⊥
+  never_read steps taken (Some end) a c is same = subst (λ e. AnswersCommand facts is.command e is.last c) same is.ended
+  never_read steps taken None a c is same = absurd (cc)

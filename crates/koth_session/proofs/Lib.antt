@@ -11,6 +11,7 @@ mod PeerRows
 mod Readings
 mod SessionRows
 mod Slots
+mod Spoken
 pub mod Standing
 pub mod Steps
 mod Streams

@@ -4,6 +4,10 @@ pub mod Reply
 pub mod Transcript
 -- How a session goes and ends, and what the device holds then: what `session` promises.
 pub mod Sessions
+-- How it ends if each source is assembled within a number of steps.
+pub mod Within
+-- What its streams tell of it: what `koth session` promises.
+pub mod Spoken
 -- What came from a peer, and which command of it is due.
 pub mod Inbox
 -- What a peer is given to send.

@@ -15,8 +15,8 @@
 //!
 //! `session` writes the transcript of the commands in the bytes that it took, and nothing else. It leaves the hill of the
 //! submissions that it answered: no stop of the device loses one of these (`ends`). It takes 16,777,216 bytes at most, and
-//! blames a stream only if that stream's count of faults rose. `write_reply` writes exactly the reply's line, or a part
-//! of it if the output fails. `line_of` and `table_of` give the program the same lines for its own outputs.
+//! blames a stream only if that stream's count of faults rose. `session_within` is the same with steps for each source.
+//! `write_reply` writes exactly the reply's line, or a part of it if the output fails. `line_of` and `table_of` give the program the same lines for its own outputs.
 //!
 //! Of many peers, a call on one leaves every other as it is (`OnlyAt`). The next one served is the first to which the turn may come after the
 //! one served last (`IsNext`): it has a command due, and while a submission is under way it is the peer of that, or its source was not put off.
@@ -50,4 +50,4 @@ pub use laws::sessions_in_lives;
 pub use peer::Peer;
 pub use peers::{NotConnected, Peers, Step};
 pub use reply::{line_of, table_of, write_reply};
-pub use sessions::{SessionEnd, session};
+pub use sessions::{SessionEnd, session, session_within};

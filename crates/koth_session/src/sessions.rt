@@ -1,8 +1,8 @@
 //! One session over two streams: commands in, answers out.
 
-ghost use Rattle.std.specs.{Prelude.{◌≡◌, ◌+◌, ◌<◌, ◌≤◌, true, false, [], None, Some, length, take, IfOk, OnOk, OnErr}, Io.KnownBytes.{Consumes, IsAtEnd, Keeps}};
+ghost use Rattle.std.specs.{Prelude.{◌≡◌, ◌+◌, ◌<◌, ◌≤◌, true, false, [], None, Some, length, take, IfErr, IfOk, OnOk, OnErr}, Io.KnownBytes.{Consumes, IsAtEnd, Keeps}};
 ghost use Rattle.{koth_protocol.specs.Counted.Rose, koth_session.specs.{Peer.{is_due_now, may_come_now, IsNew}, Sessions.{scene, EndsSession}}};
-ghost use Rattle.koth_session.specs.Streams.{end_of, GoesOn};
+ghost use Rattle.koth_session.specs.{Spoken.Speaks, Streams.{end_of, GoesOn}, Within.EndsWithin};
 
 use crate::end::PeerEnd;
 use crate::peer::Peer;
@@ -51,38 +51,63 @@ pub fn session<R: Read, W: Write, D: Device, A: Allocator + Copy>(
     ensures read_fault { result ≡ SessionEnd.ReadFault → Rose input.old.faults input.new.faults }
     ensures write_fault { result ≡ SessionEnd.WriteFault → Rose output.old.faults output.new.faults }
 {
+    match session_within(alloc, None, input, output, store) {
+        Some(end) => end,
+        None => unreachable!(),
+    }
+}
+
+/// Serves a session as `session` does, and assembles each source in this number of steps if there is one. If the
+/// assembly of a source spends them, the session ends with `None`: that source is not submitted, and not answered. So
+/// it will be with the same source again.
+pub fn session_within<R: Read, W: Write, D: Device, A: Allocator + Copy>(
+    alloc: A,
+    steps: Option<u64>,
+    input: &mut Counted<R>,
+    output: &mut Counted<W>,
+    store: &mut Store<D, A>,
+) -> Option<SessionEnd>
+    ensures ends { EndsWithin D.facts steps result (R.remaining input.old.stream) (R.remaining input.new.stream)
+        (scene (W.contents output.old.stream) store.old) (scene (W.contents output.new.stream) store.new) }
+    ensures spoken { Speaks steps store.old.hill result (R.remaining input.old.stream) (R.remaining input.new.stream)
+        (W.contents output.old.stream) (W.contents output.new.stream) }
+    ensures limit { input.new.taken ≤ input.old.taken + 16777216 }
+    ensures read_fault { result ≡ Some SessionEnd.ReadFault → Rose input.old.faults input.new.faults }
+    ensures write_fault { result ≡ Some SessionEnd.WriteFault → Rose output.old.faults output.new.faults }
+{
     match Peer::new(alloc) {
-        Ok(mut peer) => serve(alloc, &mut peer, input, output, store),
-        Err(AllocError) => SessionEnd::Memory,
+        Ok(mut peer) => serve(alloc, steps, &mut peer, input, output, store),
+        Err(AllocError) => Some(SessionEnd::Memory),
     }
 }
 
 /// Serves the commands of a peer of which nothing came yet. Each one in what was read is answered before more is read.
 fn serve<R: Read, W: Write, D: Device, A: Allocator + Copy>(
     alloc: A,
+    steps: Option<u64>,
     peer: &mut Peer<A>,
     input: &mut Counted<R>,
     output: &mut Counted<W>,
     store: &mut Store<D, A>,
-) -> SessionEnd
+) -> Option<SessionEnd>
     requires { IsNew peer.old }
-    ensures ends { EndsSession D.facts result (R.remaining input.old.stream) (R.remaining input.new.stream)
+    ensures ends { EndsWithin D.facts steps result (R.remaining input.old.stream) (R.remaining input.new.stream)
         (scene (W.contents output.old.stream) store.old) (scene (W.contents output.new.stream) store.new) }
     ensures limit { input.new.taken ≤ input.old.taken + 16777216 }
-    ensures read_fault { result ≡ SessionEnd.ReadFault → Rose input.old.faults input.new.faults }
-    ensures write_fault { result ≡ SessionEnd.WriteFault → Rose output.old.faults output.new.faults }
+    ensures read_fault { result ≡ Some SessionEnd.ReadFault → Rose input.old.faults input.new.faults }
+    ensures write_fault { result ≡ Some SessionEnd.WriteFault → Rose output.old.faults output.new.faults }
 {
     let mut chunk = [0; WAITING_MOST];
     'steps: while peer.end().is_none() {
         if peer.is_due() {
-            if let Some(end) = answer_next(alloc, peer, output, store) {
+            if let Err(end) = answer_next(alloc, steps, peer, output, store) {
                 return end;
             }
         } else {
             match read_chunk(peer, input, &mut chunk) {
                 Ok(0) => peer.close(),
                 Ok(count) => peer.take(&chunk[..count]),
-                Err(ReadFault) => return SessionEnd::ReadFault,
+                Err(ReadFault) => return Some(SessionEnd::ReadFault),
             }
         }
     }
@@ -117,41 +142,47 @@ fn read_chunk<R: Read, A: Allocator>(
     input.read(&mut chunk[..most])
 }
 
-/// Carries out the command that is due, and sends its answer.
+/// Carries out the command that is due, and sends its answer. The error is how the session ends, and `None` if a source
+/// spends its steps.
 fn answer_next<W: Write, D: Device, A: Allocator + Copy>(
     alloc: A,
+    steps: Option<u64>,
     peer: &mut Peer<A>,
     output: &mut Counted<W>,
     store: &mut Store<D, A>,
-) -> Option<SessionEnd>
+) -> Result<(), Option<SessionEnd>>
     requires { is_due_now peer.old ≡ true }
-    ensures goes { GoesOn D.facts result peer.old (scene (W.contents output.old.stream) store.old) peer.new (scene (W.contents output.new.stream) store.new) }
-    ensures fewer { result ≡ None → is_due_now peer.new ≡ true → length peer.new.inbox.waiting < length peer.old.inbox.waiting }
-    ensures closed { result ≡ None → peer.new.closed ≡ peer.old.closed }
-    ensures ok { result ≡ None → output.new.faults ≡ output.old.faults }
-    ensures rose { result ≡ Some SessionEnd.WriteFault → Rose output.old.faults output.new.faults }
+    ensures goes { GoesOn D.facts steps result peer.old (scene (W.contents output.old.stream) store.old)
+        peer.new (scene (W.contents output.new.stream) store.new) }
+    ensures fewer { OnOk result (is_due_now peer.new ≡ true
+        → length peer.new.inbox.waiting < length peer.old.inbox.waiting) }
+    ensures closed { OnOk result (peer.new.closed ≡ peer.old.closed) }
+    ensures ok { OnOk result (output.new.faults ≡ output.old.faults) }
+    ensures rose { IfErr result (λ end. end ≡ Some SessionEnd.WriteFault → Rose output.old.faults output.new.faults) }
 {
-    if let Some(end) = peer.serve(alloc, None, store) {
-        return Some(end_of(end));
+    if let Some(end) = peer.serve(alloc, steps, store) {
+        return Err(end_of(end));
     }
     if let Err(WriteFault) = send(output, peer.unsent()) {
-        return Some(SessionEnd::WriteFault);
+        return Err(Some(SessionEnd::WriteFault));
     }
     let count = peer.unsent().len();
     peer.pass(count);
-    None
+    Ok(())
 }
 
-/// How a session over streams ends where its peer ended so. Since nothing was unsent, a command had no room or memory for its answer only
-/// if it was `SHOW`, and no room only if the table is over 1,048,576 bytes. No steps are spent where none are given.
-fn end_of(end: PeerEnd) -> SessionEnd
+/// How a session over streams ends where its peer ended so: with `None` if a source spent its steps. Since nothing was
+/// unsent, a command had no room or memory for its answer only if it was `SHOW`, and no room only if the table is over
+/// 1,048,576 bytes.
+fn end_of(end: PeerEnd) -> Option<SessionEnd>
     ensures { result ≡ end_of end }
 {
     match end {
-        PeerEnd::Quit => SessionEnd::Quit,
-        PeerEnd::EndOfInput => SessionEnd::EndOfInput,
-        PeerEnd::Limit => SessionEnd::Limit,
-        PeerEnd::StoreFailed => SessionEnd::StoreFailed,
-        PeerEnd::Unread | PeerEnd::StepsSpent | PeerEnd::Memory => SessionEnd::Memory,
+        PeerEnd::Quit => Some(SessionEnd::Quit),
+        PeerEnd::EndOfInput => Some(SessionEnd::EndOfInput),
+        PeerEnd::Limit => Some(SessionEnd::Limit),
+        PeerEnd::StoreFailed => Some(SessionEnd::StoreFailed),
+        PeerEnd::Unread | PeerEnd::Memory => Some(SessionEnd::Memory),
+        PeerEnd::StepsSpent => None,
     }
 }

@@ -1,7 +1,7 @@
 -- Step by step, and the ends.
-use Rattle.std.proofs.{Common.{◌∙◌, ◌++◌, Some, [], ap, arith, length, not, refl, rules, subst, sym, take, true≢false}, lemmas.List.{length-append, length-take-le}, KnownBytes.{Consumes-kept, Consumes-nil, Consumes-trans}}
-use Rattle.koth_session.proofs.{Endings.{end_taken, ends_by, kept_first, never_read}, PeerReads.{less_answered, less_closed, less_read, open_peer, room_now}, Standing.{none_of, unmet_then}, Streams.{all_answered, begun, closed_now, ends_all, took}}
-use Rattle.{koth_protocol.specs.Counted.Rose, koth_session.specs.{Inbox.is_met, Sessions.scene, declared.sessions.SessionEnd.SessionEnd}}
+use Rattle.std.proofs.{Common.{◌∙◌, ◌++◌, [], ap, arith, length, not, refl, rules, subst, sym, take, true≢false}, lemmas.List.{length-append, length-take-le}, KnownBytes.{Consumes-kept, Consumes-nil, Consumes-trans}}
+use Rattle.koth_session.proofs.{Endings.{end_taken, ends_within, kept_within, never_read}, PeerReads.{less_answered, less_closed, less_read, open_peer, room_now}, Standing.{none_of, unmet_then}, Streams.{all_answered, begun, closed_now, ends_all, took}}
+use Rattle.{koth_protocol.specs.Counted.Rose, koth_session.specs.{Inbox.is_met, Sessions.scene}}
 use Rattle.koth_session.proofs.sessions.serve.Goals as goal
 
 pub steps-init : goal.steps-init
@@ -21,33 +21,33 @@ read_chunk-requires-clause-room g c =
     let goes_on = sym c.end.ensures ∙ none_of c.end.result (c.is_none.ensures ∙ ap not c.steps-test.true) in
     room_now c.steps.peer so_far.came _ goes_on (sym c.is_due.ensures ∙ c.if-is_due.false) so_far.serving.reads
 
-pub returns-in-Err-clause-ends : goal.returns-in-Err-clause-ends
-returns-in-Err-clause-ends g c =
+pub returns-in-Err-read_chunk-clause-ends : goal.returns-in-Err-read_chunk-clause-ends
+returns-in-Err-read_chunk-clause-ends g c =
     let so_far = c.steps.invariant in
     let goes_on = sym c.end.ensures ∙ none_of c.end.result (c.is_none.ensures ∙ ap not c.steps-test.true) in (
       so_far.came,
-      Consumes-kept _ _ _ _ so_far.took c.in-Err.ensures.kept,
+      Consumes-kept _ _ _ _ so_far.took c.in-Err-read_chunk.ensures.kept,
       so_far.serving.reads.few,
       so_far.serving.answered.served.kept,
       all_answered g.D.Device.facts so_far.came c.steps.peer _ _ goes_on (sym c.is_due.ensures ∙ c.if-is_due.false) so_far.serving,
     )
 
-pub returns-in-Some-clause-ends : goal.returns-in-Some-clause-ends
-returns-in-Some-clause-ends g c =
+pub returns-in-Err-clause-ends : goal.returns-in-Err-clause-ends
+returns-in-Err-clause-ends g c =
     let so_far = c.steps.invariant in
-    let first = c.in-Some.ensures.goes so_far.came _ so_far.serving in (
+    let first = c.in-Err.ensures.goes so_far.came _ so_far.serving in (
       so_far.came,
       so_far.took,
       so_far.serving.reads.few,
-      kept_first g.D.Device.facts so_far.came c.in-Some.end _ _ first,
-      ends_by g.D.Device.facts c.in-Some.end so_far.came _ _ _ first,
+      kept_within g.D.Device.facts c.args.steps so_far.came c.in-Err.end _ _ first,
+      ends_within g.D.Device.facts c.args.steps c.in-Err.end so_far.came _ _ _ first,
     )
 
 pub steps-smaller-in_default : goal.steps-smaller-in_default
 steps-smaller-in_default g c =
     let so_far = c.steps.invariant in
     let now = c.in_default.ensures.goes so_far.came _ so_far.serving in
-    less_answered c.steps.peer c.answer_next.new.peer so_far.came _ _ (sym c.is_due.ensures ∙ c.if-is_due.true) so_far.serving.reads now.reads (c.in_default.ensures.fewer refl)
+    less_answered c.steps.peer c.answer_next.new.peer so_far.came _ _ (sym c.is_due.ensures ∙ c.if-is_due.true) so_far.serving.reads now.reads c.in_default.ensures.fewer
 
 pub steps-preserved-in-Ok-eq0 : goal.steps-preserved-in-Ok-eq0
 steps-preserved-in-Ok-eq0 g c =
@@ -89,19 +89,19 @@ returns-clause-ends g c =
       so_far.took,
       so_far.serving.reads.few,
       so_far.serving.answered.served.kept,
-      rw c.end_of.ensures (ends_all g.D.Device.facts c.in-Some-end.end so_far.came _ c.steps.peer _ _ (sym c.end-2.ensures ∙ c.in-Some-end.is) so_far.at_end so_far.serving),
+      rw c.end_of.ensures (ends_all g.D.Device.facts c.args.steps c.in-Some.end so_far.came _ c.steps.peer _ _ (sym c.end-2.ensures ∙ c.in-Some.is) so_far.at_end so_far.serving),
     )
 
-pub returns-in-Some-clause-read_fault : goal.returns-in-Some-clause-read_fault
-returns-in-Some-clause-read_fault g c = λ is.
+pub returns-in-Err-clause-read_fault : goal.returns-in-Err-clause-read_fault
+returns-in-Err-clause-read_fault g c = λ is.
     let so_far = c.steps.invariant in
-    absurd (never_read g.D.Device.facts so_far.came c.in-Some.end (scene (g.W.Write.contents c.args.output.now.stream) c.args.store.now)
+    absurd (never_read g.D.Device.facts c.args.steps so_far.came c.in-Err.end (scene (g.W.Write.contents c.args.output.now.stream) c.args.store.now)
     (scene (g.W.Write.contents c.answer_next.new.output.stream) c.answer_next.new.store)
-    (c.in-Some.ensures.goes so_far.came (scene (g.W.Write.contents c.args.output.now.stream) c.args.store.now) so_far.serving) is)
+    (c.in-Err.ensures.goes so_far.came (scene (g.W.Write.contents c.args.output.now.stream) c.args.store.now) so_far.serving) is)
 
-pub returns-in-Some-clause-write_fault : goal.returns-in-Some-clause-write_fault
-returns-in-Some-clause-write_fault g c = λ is.
-    subst (λ n. Rose n c.answer_next.new.output.faults) c.steps.invariant.write_faults (c.in-Some.ensures.rose (ap (λ (e : SessionEnd). Some e) is))
+pub returns-in-Err-clause-write_fault : goal.returns-in-Err-clause-write_fault
+returns-in-Err-clause-write_fault g c = λ is.
+    subst (λ n. Rose n c.answer_next.new.output.faults) c.steps.invariant.write_faults (c.in-Err.ensures.rose is)
 
 pub steps-smaller-in-Ok-eq0 : goal.steps-smaller-in-Ok-eq0
 steps-smaller-in-Ok-eq0 g c =
