@@ -1,0 +1,4 @@
+mod Left
+mod Added
+mod Sorted
+mod Rows
