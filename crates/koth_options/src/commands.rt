@@ -287,7 +287,7 @@ fn program<'a>(heap: Global) -> Command<'a>
     ensures { IsReadAs (wants_subcommand (with_version (new_app (codes "koth")))) result }
 {
     described(heap, "koth", "A King of the Hill server for Core War")
-        .version("1.1.0")
+        .version("1.2.0")
         .after_help(
             "Status: 0 done; 1 refused; 2 usage; 3 a file or stream failed; 4 out of memory",
         )
