@@ -44,6 +44,10 @@ reason_text Reason.Size = codes "the file would be too large"
 reason_text Reason.NoFile = codes "it is no plain file"
 reason_text Reason.InUse = codes "another program uses it"
 reason_text Reason.Locked = codes "another program uses it; koth submit --wait SECONDS waits for it"
+reason_text Reason.LockedNow =
+    codes "another program uses it: if it is served, submit to its port, as (echo SUBMIT; cat SOURCE; echo .; echo QUIT) | nc 127.0.0.1 PORT does; if another submission is under way, --wait SECONDS waits for it"
+reason_text Reason.LockedStill =
+    codes "another program uses it: if it is served, submit to its port, as (echo SUBMIT; cat SOURCE; echo .; echo QUIT) | nc 127.0.0.1 PORT does"
 reason_text Reason.Replaced = codes "another file has this name"
 reason_text Reason.Taken = codes "its name with .new after it is taken; remove that file, unless another koth is at work"
 reason_text Reason.Unfit = codes "its file system lacks locks or links that a hill needs; take a local disk"

@@ -39,6 +39,10 @@ pub enum Reason {
     InUse,
     /// Another program has the lock of a hill's file.
     Locked,
+    /// It has the lock of the file of a hill to which a source is submitted.
+    LockedNow,
+    /// The same, and it had that for as long as a submission waits.
+    LockedStill,
     /// Another file has this name by now.
     Replaced,
     /// The name under which a new file is made first is taken.
@@ -99,6 +103,12 @@ impl Reason {
             Reason::NoFile => "it is no plain file",
             Reason::InUse => "another program uses it",
             Reason::Locked => { "another program uses it; koth submit --wait SECONDS waits for it" }
+            Reason::LockedNow => {
+                "another program uses it: if it is served, submit to its port, as (echo SUBMIT; cat SOURCE; echo .; echo QUIT) | nc 127.0.0.1 PORT does; if another submission is under way, --wait SECONDS waits for it"
+            }
+            Reason::LockedStill => {
+                "another program uses it: if it is served, submit to its port, as (echo SUBMIT; cat SOURCE; echo .; echo QUIT) | nc 127.0.0.1 PORT does"
+            }
             Reason::Replaced => "another file has this name",
             Reason::Taken => {
                 "its name with .new after it is taken; remove that file, unless another koth is at work"

@@ -1,5 +1,5 @@
 -- What is told of a hill's file that can't be worked on.
-use Rattle.std.specs.{Prelude.{◌≡◌, ℕ, Bool, true, false, List}, Borrow.Bor}
+use Rattle.std.specs.{Prelude.{◌≡◌, ◌⊎◌, ◌==◌, ℕ, Bool, true, false, if◌then◌else◌, List}, Borrow.Bor}
 use Rattle.{hill_file.specs.declared.open_fault.OpenFault.OpenFault, hill_images.specs.declared.refusal.Refusal.Refusal}
 use Rattle.koth_commands.specs.{Cause.error_reason, Trouble.no_memory, declared.cause.{Cause.Cause, Reason.Reason, Subject.Subject}}
 use Rattle.koth_commands.specs.declared.trouble.{About.About, Fault.Fault, Trouble.Trouble}
@@ -58,3 +58,11 @@ IsOfHill trouble = is_of_settings trouble.fault ≡ false
 -- another program has the lock of a hill's file
 abbrev pub IsLock : Trouble → Type 0
 IsLock trouble = (cause : Cause) × (trouble.about ≡ About.Cause cause) × (cause.reason ≡ Reason.Locked)
+
+-- the same to a submission: what can be done, at once, and after it waited for this number of seconds
+abbrev pub locked_at : Bor (List ℕ) → ℕ → Trouble
+locked_at path seconds = if seconds == 0 then told_at path Fault.Stream Reason.LockedNow else told_at path Fault.Stream Reason.LockedStill
+
+-- a submission is never told of a lock without what can be done
+abbrev pub TellsLock : Bor (List ℕ) → ℕ → Trouble → Type 0
+TellsLock path seconds trouble = (trouble ≡ locked_at path seconds) ⊎ ¬ IsLock trouble

@@ -1,10 +1,10 @@
 //! How the hill in a file is opened.
 
 ghost use Rattle.std.specs.Prelude.{◌≡◌, ◌≤◌, false, IfErr, IfOk};
-ghost use Rattle.{hill_store.specs.Opened.IsOpened, koth_files.specs.{OldHill.{IsUnopened, TellsNoHill, TellsRefusal}, Trouble.IsOfHill}};
+ghost use Rattle.{hill_store.specs.Opened.IsOpened, koth_files.specs.{OldHill.{IsUnopened, TellsNoHill, TellsRefusal}, Trouble.{IsOfHill, TellsLock}}};
 
 use crate::damage::damaged_in;
-use crate::trouble::{damaged_at, is_lock, refused_at, told_at, unopened_at};
+use crate::trouble::{damaged_at, is_lock, locked_at, refused_at, told_at, unopened_at};
 use hill_file::{Headers, HillFile, Sharing, TryLock, is_another_hill, require_held};
 use hill_images::holds_old_hill;
 use hill_store::{Refusal, Store};
@@ -59,8 +59,8 @@ where
     }
 }
 
-/// Opens the hill in a file for this program alone. As long as another program has the lock of the file, that is tried again, for this
-/// number of seconds.
+/// Opens the hill in a file for this program alone, to submit to it. As long as another program has the lock of the file, that is tried again,
+/// for this number of seconds. If the lock is not to be had, the trouble says what can be done.
 pub fn open_within<'f, R: Files + Clock, A: Allocator + Copy>(
     rt: &'f R,
     alloc: A,
@@ -71,16 +71,22 @@ where
     R::File: TryLock,
     ensures open_now { IfOk result (λ store. store.reopen ≡ false) }
     ensures of_hill { IfErr result IsOfHill }
+    ensures told { IfErr result (TellsLock path.entry seconds) }
 {
     for _ in 0..u64::from(seconds) * TRIES {
         match open_hill(rt, alloc, path) {
             Err(trouble) if is_lock(&trouble) => {
                 sleep(rt, Duration::from_millis(1000 / TRIES));
             }
-            opened => return opened,
+            Err(trouble) => return Err(trouble),
+            Ok(store) => return Ok(store),
         }
     }
-    open_hill(rt, alloc, path)
+    match open_hill(rt, alloc, path) {
+        Err(trouble) if is_lock(&trouble) => Err(locked_at(path, seconds)),
+        Err(trouble) => Err(trouble),
+        Ok(store) => Ok(store),
+    }
 }
 
 /// Opens the hill in a file again, which a device has left with these headers. If another hill is there, or an earlier state of that one, nothing

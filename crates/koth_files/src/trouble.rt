@@ -1,7 +1,7 @@
 //! Why a hill's file can't be worked on.
 
 ghost use Rattle.std.specs.Prelude.{◌≡◌, ◌↔◌, IsTrue};
-ghost use Rattle.koth_files.specs.Trouble.{damaged_at, refused_at, told_at, unopened_at, IsLock, IsOfHill};
+ghost use Rattle.koth_files.specs.Trouble.{damaged_at, locked_at, refused_at, told_at, unopened_at, IsLock, IsOfHill};
 
 use hill_file::OpenFault;
 use hill_store::Refusal;
@@ -58,6 +58,17 @@ pub(crate) fn damaged_at<'f>(path: &'f str, entry: u64) -> Trouble<'f>
     Trouble {
         fault: Fault::Damaged,
         about: About::Cause(cause),
+    }
+}
+
+/// Another program has the lock of the file of a hill at this path, to which a source is submitted, and had it for this number of seconds.
+pub(crate) fn locked_at<'f>(path: &'f str, seconds: u32) -> Trouble<'f>
+    ensures { result ≡ locked_at path.entry seconds }
+{
+    if seconds == 0 {
+        told_at(path, Fault::Stream, Reason::LockedNow)
+    } else {
+        told_at(path, Fault::Stream, Reason::LockedStill)
     }
 }
 

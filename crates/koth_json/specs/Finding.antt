@@ -30,9 +30,9 @@ finding_fields f =
     ∷ (Key.Text, Value.text f.text.now)
     ∷ copy_fields f.copy
 
--- a finding in the source in a file
+-- a finding in the source in a file; fields are added at the end, so what it is stands there
 abbrev pub finding_line : List ℕ → Finding → List ℕ
-finding_line file f = object_line (Key.File, Value.text file) (finding_fields f)
+finding_line file f = object_line (Key.File, Value.text file) (finding_fields f ++ (Key.Type, Value.text (codes "finding")) ∷ [])
 
 -- a source that is refused, for what is found in it
 abbrev pub refused_line : List ℕ → Finding → List ℕ

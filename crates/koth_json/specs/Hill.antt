@@ -1,6 +1,6 @@
 -- The lines of `show`.
 use Rattle.std.specs.{Prelude.{ℕ, Bool, if◌then◌else◌, List, [], ◌∷◌, ◌++◌, length, codes}, List.{enumerate_from, flat_map, zip}}
-use Rattle.{war_types.specs.declared.settings.RawSettings.RawSettings, koth_match.specs.declared.bout.Bout.Bout, koth_text.specs.Tally.of_younger}
+use Rattle.{war_types.specs.declared.settings.RawSettings.RawSettings, koth_match.specs.declared.bout.Bout.Bout, koth_text.specs.Tally.of_younger, koth_views.specs.Tally.against_all}
 use Rattle.koth_hill.specs.{Hill.Member, Kept.{Kept, table_kept}, Table.RowParts}
 use Rattle.koth_json.specs.{declared.key.Key.Key, Contest.tally_fields, Objects.{Field, Value, object_line, type_field}}
 
@@ -31,15 +31,16 @@ hill_line warriors given = object_line (type_field (codes "hill")) ((Key.Warrior
 abbrev pub standing_fields : RowParts → List Field
 standing_fields row = (Key.Entry, Value.number row.entry) ∷ (Key.Points, Value.number row.score) ∷ (Key.Age, Value.number row.age) ∷ []
 
--- a warrior on a hill, with its rank
-abbrev pub row_line : ℕ → RowParts → List ℕ
-row_line rank row =
+-- a warrior on this hill, with its rank, and the rounds that it won, lost and tied against all others
+abbrev pub row_line : Kept → ℕ → RowParts → List ℕ
+row_line k rank row =
     object_line (type_field (codes "warrior")) (
-    (Key.Rank, Value.number rank) ∷ standing_fields row ++ (Key.Name, Value.text row.name) ∷ (Key.Author, Value.text row.author) ∷ [])
+    (Key.Rank, Value.number rank) ∷ standing_fields row ++ (Key.Name, Value.text row.name) ∷ (Key.Author, Value.text row.author)
+    ∷ tally_fields (against_all k row.entry))
 
 -- the warriors in these rows, which stand by rank from 1 on
-abbrev pub row_lines : List RowParts → List ℕ
-row_lines rows = flat_map (λ (rank, row). row_line rank row) (enumerate_from 1 rows)
+abbrev pub row_lines : Kept → List RowParts → List ℕ
+row_lines k rows = flat_map (λ (rank, row). row_line k rank row) (enumerate_from 1 rows)
 
 -- the match of an entry with an older warrior, from the entry's side
 abbrev pub bout_line : ℕ → Member → Bout → List ℕ
@@ -65,4 +66,4 @@ matches_text asked k = if asked then kept_lines k else []
 
 -- a hill with these settings: its line, those of its warriors by rank, and of their matches if they are asked for
 abbrev pub hill_text : RawSettings → Bool → Kept → List ℕ
-hill_text given matches k = hill_line (length k.members) given ++ (row_lines (table_kept k) ++ matches_text matches k)
+hill_text given matches k = hill_line (length k.members) given ++ (row_lines k (table_kept k) ++ matches_text matches k)

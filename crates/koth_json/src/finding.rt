@@ -54,7 +54,8 @@ pub fn put_finding<A: Allocator>(
     ensures { OnOk result (lines.new.items ≡ lines.old.items ++ finding_line file.now finding.entry) }
 {
     begin(lines, (Key::File, Text(file.as_bytes())))?;
-    end_with_parts(lines, finding)
+    put_parts(lines, finding)?;
+    end_with(lines, &[(Key::Type, Text(b"finding"))])
 }
 
 /// Puts the line of a source that is refused, for what is found in it. The error is lack of memory.
@@ -67,15 +68,13 @@ pub fn put_refused<A: Allocator>(
 {
     begin(lines, (Key::Type, Text(b"refused")))?;
     put_fields(lines, &[(Key::File, Text(file.as_bytes()))])?;
-    end_with_parts(lines, finding)
+    put_parts(lines, finding)?;
+    end_with(lines, &[])
 }
 
-/// Ends a line with what is found, and where it is.
-fn end_with_parts<A: Allocator>(
-    line: &mut Vec<u8, A>,
-    finding: Finding<'_>,
-) -> Result<(), AllocError>
-    ensures { OnOk result (line.new.items ≡ line.old.items ++ (further_text (finding_fields finding.entry) ++ codes "}\n")) }
+/// Puts what is found, and where it is.
+fn put_parts<A: Allocator>(line: &mut Vec<u8, A>, finding: Finding<'_>) -> Result<(), AllocError>
+    ensures { OnOk result (line.new.items ≡ line.old.items ++ further_text (finding_fields finding.entry)) }
 {
     let fields = [
         (Key::Line, Number(u64::from(finding.line))),
@@ -90,25 +89,22 @@ fn end_with_parts<A: Allocator>(
         (Key::Text, Text(finding.text)),
     ];
     put_fields(line, &fields)?;
-    end_with_copy(line, finding.copy)
+    put_copy(line, finding.copy)
 }
 
-/// Ends a line with the copy that is to blame, if there is one.
-fn end_with_copy<A: Allocator>(
-    line: &mut Vec<u8, A>,
-    copy: Option<Copied<'_>>,
-) -> Result<(), AllocError>
-    ensures { OnOk result (line.new.items ≡ line.old.items ++ (further_text (copy_fields copy.entry) ++ codes "}\n")) }
+/// Puts the copy that is to blame, if there is one.
+fn put_copy<A: Allocator>(line: &mut Vec<u8, A>, copy: Option<Copied<'_>>) -> Result<(), AllocError>
+    ensures { OnOk result (line.new.items ≡ line.old.items ++ further_text (copy_fields copy.entry)) }
 {
     match copy {
-        None => end_with(line, &[]),
+        None => Ok(()),
         Some(copy) => {
             let fields = [
                 (Key::Copy, Number(u64::from(copy.times))),
                 (Key::Block, Number(u64::from(copy.block))),
                 (Key::Reads, Text(copy.text)),
             ];
-            end_with(line, &fields)
+            put_fields(line, &fields)
         }
     }
 }

@@ -10,6 +10,7 @@ use crate::object::put_object;
 use koth_hill::{Hill, Member, Row};
 use koth_match::Bout;
 use koth_text::Tally;
+use koth_views::against_all;
 use std::alloc::{AllocError, Allocator};
 use war_types::RawSettings;
 
@@ -26,7 +27,7 @@ pub fn hill_text<A: Allocator + Copy, B: Allocator>(
     let rows = hill.rows(alloc)?;
     let mut text = Vec::new(alloc);
     put_hill(&mut text, hill.len() as u64, given)?;
-    put_rows(&mut text, rows.as_slice())?;
+    put_rows(&mut text, hill, rows.as_slice())?;
     put_matches(&mut text, hill, matches)?;
     Ok(text)
 }
@@ -71,18 +72,28 @@ fn put_hill<A: Allocator>(
 }
 
 /// Puts the lines of the warriors in these rows, which stand by rank. The error is lack of memory.
-fn put_rows<A: Allocator>(lines: &mut Vec<u8, A>, rows: &[Row<'_>]) -> Result<(), AllocError>
-    ensures { OnOk result (lines.new.items ≡ lines.old.items ++ row_lines (rows_parts rows.now)) }
+fn put_rows<A: Allocator, B: Allocator>(
+    lines: &mut Vec<u8, A>,
+    hill: &Hill<B>,
+    rows: &[Row<'_>],
+) -> Result<(), AllocError>
+    ensures { OnOk result (lines.new.items ≡ lines.old.items ++ row_lines hill.now (rows_parts rows.now)) }
 {
     for place in 0..rows.len() {
-        put_row(lines, place as u64 + 1, &rows[place])?;
+        put_row(lines, hill, place as u64 + 1, &rows[place])?;
     }
     Ok(())
 }
 
-fn put_row<A: Allocator>(lines: &mut Vec<u8, A>, rank: u64, row: &Row<'_>) -> Result<(), AllocError>
-    ensures { OnOk result (lines.new.items ≡ lines.old.items ++ row_line rank (row_parts row.now)) }
+fn put_row<A: Allocator, B: Allocator>(
+    lines: &mut Vec<u8, A>,
+    hill: &Hill<B>,
+    rank: u64,
+    row: &Row<'_>,
+) -> Result<(), AllocError>
+    ensures { OnOk result (lines.new.items ≡ lines.old.items ++ row_line hill.now rank (row_parts row.now)) }
 {
+    let rounds = against_all(hill, row.entry);
     let fields = [
         (Key::Rank, Number(rank)),
         (Key::Entry, Number(row.entry)),
@@ -90,6 +101,9 @@ fn put_row<A: Allocator>(lines: &mut Vec<u8, A>, rank: u64, row: &Row<'_>) -> Re
         (Key::Age, Number(row.age)),
         (Key::Name, Text(row.name.bytes())),
         (Key::Author, Text(row.author.bytes())),
+        (Key::Won, Number(rounds.won)),
+        (Key::Lost, Number(rounds.lost)),
+        (Key::Tied, Number(rounds.tied)),
     ];
     put_object(lines, "warrior", &fields)
 }

@@ -145,7 +145,7 @@ const TO_SERVE: [Row; 4] = [
                 "peers-per-address",
                 1,
                 1024,
-                "Most peers of one address served at once, 1 to 1024; further ones are refused [default: no limit]",
+                "Most peers of one address served at once, and as many browsers, 1 to 1024; further ones are refused [default: no limit]",
             ),
             Number(
                 "steps",

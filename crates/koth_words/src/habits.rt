@@ -1,4 +1,6 @@
-//! Options of pMARS that authors type by habit.
+//! What authors type who have pMARS by habit: its options, and sources without a command.
+
+use std::alloc::{AllocError, Global};
 
 /// What stands for an option of pMARS that `koth` doesn't have, if one of these words is such an option.
 pub(crate) fn habit_among(words: &[String]) -> Option<&'static str> {
@@ -30,4 +32,30 @@ fn instead_of(word: &str) -> Option<&'static str> {
     } else {
         None
     }
+}
+
+/// Whether these words name a source where a command is due. The first of `words` is the program's name.
+pub(crate) fn begin_with_source(words: &[String]) -> bool {
+    match words {
+        [_, first, ..] => first.ends_with(".red") || first.ends_with(".RED"),
+        _ => false,
+    }
+}
+
+/// The command that words without one may mean: that the sources fight.
+pub(crate) fn fight_of(heap: Global, words: &[String]) -> Result<String, AllocError> {
+    let mut text = String::from_str(
+        heap,
+        "there is no command before the source; try 'koth fight",
+    )?;
+    let mut named = false;
+    for word in words {
+        if named {
+            text.push_str(" ")?;
+            text.push_str(word.as_str())?;
+        }
+        named = true;
+    }
+    text.push_str("'")?;
+    Ok(text)
 }

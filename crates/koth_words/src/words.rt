@@ -9,7 +9,7 @@ use crate::given::{
     audited_named, checked_named, copied_named, creation_named, fighters_named, file_named,
     migration_named, reseeded_named, shown_named, submission_named, watched_named,
 };
-use crate::habits::habit_among;
+use crate::habits::{begin_with_source, fight_of, habit_among};
 use crate::requests::{NoRequest, Request, View};
 use crate::serving::service_named;
 use crate::settings::{given_named, settings_given};
@@ -99,7 +99,7 @@ fn asked<'w>(heap: Global, name: &str, given: &ArgMatches<'w>) -> Result<Request
     }
 }
 
-/// The refusal of words that `clap` takes, as it writes those of others.
+/// The refusal of words, as `clap` writes its own.
 fn word_fault(heap: Global, why: &str) -> NoRequest
     ensures { IsRefusal result }
 {
@@ -125,6 +125,12 @@ fn no_request(heap: Global, error: &Error, words: &[String]) -> NoRequest
         if let Some(why) = habit_among(words) {
             return word_fault(heap, why);
         }
+    }
+    if error.kind() == ErrorKind::InvalidSubcommand && begin_with_source(words) {
+        return match fight_of(heap, words) {
+            Ok(why) => word_fault(heap, why.as_str()),
+            Err(AllocError) => NoRequest::Memory,
+        };
     }
     match error.to_string(heap) {
         Ok(text) if error.use_stderr() => NoRequest::WordFault(text),
