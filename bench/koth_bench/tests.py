@@ -140,13 +140,13 @@ class Rules(unittest.TestCase):
 
     def test_the_one_with_the_least_points_falls(self) -> None:
         # the third one beats both others in two rounds, and these tie
-        counts = {(1, 2): (0, 2), (2, 1): (0, 2), (1, 3): (0, 0), (3, 1): (2, 0), (2, 3): (0, 0), (3, 2): (2, 0)}
-        hill = Hill(2, lambda one, other: counts[one, other])
+        matches = {(1, 2): (0, 0, 2), (1, 3): (0, 2, 0), (2, 3): (0, 2, 0)}
+        hill = Hill(2, lambda older, younger: matches[older, younger])
         self.assertEqual([hill.submit() for _ in range(3)], ["PLACED 1 1 0\n", "PLACED 2 2 2\n", "PLACED 3 1 6\n"])
         self.assertEqual((hill.ages, hill.ranked()), ({1: 2, 3: 0}, [(6, 3), (0, 1)]))
 
     def test_of_equal_ones_the_youngest_falls(self) -> None:
-        hill = Hill(1, lambda *_: (0, 1))
+        hill = Hill(1, lambda *_: (0, 0, 1))
         self.assertEqual([hill.submit(), hill.submit()], ["PLACED 1 1 0\n", "FELL 2 1\n"])
         self.assertEqual(hill.ages, {1: 0})
 
