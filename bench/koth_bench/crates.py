@@ -19,3 +19,16 @@ def wings() -> dict[str, list[str]]:
         elif ":" in line:
             wing.append(line.partition(":")[0])
     return found
+
+
+def all_below(uses: dict[str, list[str]]) -> dict[str, list[str]]:
+    """For each crate the repository's crates below it, each after those that it stands on."""
+    below: dict[str, list[str]] = {}
+
+    def visit(name: str) -> list[str]:
+        if name not in below:
+            used = [it for it in uses[name] if it in uses]
+            below[name] = list(dict.fromkeys(it for one in used for it in [*visit(one), one]))
+        return below[name]
+
+    return {name: visit(name) for name in uses}
