@@ -34,13 +34,17 @@ def create(koth: str, hill: str, *settings: str, sources: typing.Iterable[str] =
 
 
 class Hill:
-    """A hill by its rules. Its warriors are numbered from 1 on as they are submitted, and `counts` gives what one of
-    two won, and their ties."""
+    """A hill by its rules. Its warriors are numbered from 1 on as they are submitted, and `match` gives the rounds that
+    the older of two won, those that the younger won, and their ties."""
 
-    def __init__(self, capacity: int, counts: typing.Callable[[int, int], Counts]) -> None:
-        self.capacity, self.counts = capacity, counts
+    def __init__(self, capacity: int, match: typing.Callable[[int, int], typing.Sequence[int]]) -> None:
+        self.capacity, self.match = capacity, match
         self.entries = 0
         self.ages: dict[int, int] = {}
+
+    def counts(self, one: int, other: int) -> Counts:
+        found = self.match(min(one, other), max(one, other))
+        return found[one > other], found[2]
 
     def points(self, entry: int, entries: typing.Iterable[int]) -> int:
         """The points of an entry among these: three for a round won, and one for a tie."""
@@ -56,8 +60,8 @@ class Hill:
         equal ones the youngest."""
         self.entries += 1
         entry, together = self.entries, [*self.ages, self.entries]
-        least, falls = min((self.points(it,
-                                        together), -it) for it in together) if len(together) > self.capacity else (0, 0)
+        points = [(self.points(it, together), -it) for it in together]
+        least, falls = min(points) if len(together) > self.capacity else (0, 0)
         if -falls == entry:
             return f"FELL {entry} {least}\n"
         self.ages = {**{it: age + 1 for it, age in self.ages.items() if it != -falls}, entry: 0}

@@ -150,6 +150,22 @@ def repeating(sent: bytes, expected: bytes, count: int) -> Kind:
     return repeating_peer
 
 
+def assembling(texts: list[str]) -> Kind:
+    """A peer that submits these sources one after another, each over a connection of its own."""
+
+    async def assembling_peer(run: Run, number: int) -> None:
+        while run.goes_on():
+            number += 1
+            reader, writer = await run.connect()
+            with contextlib.suppress(ConnectionError):
+                writer.write(b"SUBMIT\n" + texts[7 * number % len(texts)].encode() + b".\nQUIT\n")
+                answer = await reader.read()
+                run.came[f"of the others {answer.decode().split(' ')[0].strip() or 'ended'}"] += 1
+            writer.close()
+
+    return assembling_peer
+
+
 async def silent(run: Run, _number: int) -> None:
     """Connects and says nothing, and comes again."""
     while run.goes_on():

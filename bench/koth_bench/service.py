@@ -57,6 +57,9 @@ class Service:
         with self.connect() as peer:
             return peer.send_if_open(sent).read()
 
+    def table(self) -> bytes:
+        return self.answers(b"SHOW\nQUIT\n")
+
     def page(self, path: str = "", method: str = "GET") -> tuple[int, bytes]:
         """The status of a page, and its text."""
         try:

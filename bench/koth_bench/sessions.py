@@ -210,10 +210,6 @@ class Peer(peer.Peer):
         super().__init__(port, patience=PATIENCE, room=4096 if connection.kind == "deaf" else 0)
         self.socket.setsockopt(socket.IPPROTO_TCP, socket.TCP_NODELAY, 1)
 
-    def talk(self) -> None:
-        with self.socket:
-            getattr(self, self.connection.kind)()
-
     def read_answers(self, count: int) -> None:
         """Reads until this number of commands are answered, or there is a line that is no answer, or no more."""
         while True:
@@ -246,61 +242,52 @@ class Peer(peer.Peer):
         else:
             self.close()
 
-    def quit(self) -> None:
-        self.send(QUIT)
-        self.read_all()
+    def say(self, command: Command, place: int, is_slow: bool) -> None:
+        """Sends a command, at once or by the byte, and reads until it is answered."""
+        text = sent(command)
+        delay = self.random.uniform(1, 3) / len(text) if is_slow else 0
+        for piece in [text[at : at + 1] for at in range(len(text))] if is_slow else [text]:
+            self.send(piece)
+            time.sleep(delay)
+        self.read_answers(place + 1)
 
-    def plain(self) -> None:
-        for place, command in enumerate(self.connection.commands):
-            self.send(sent(command))
-            self.read_answers(place + 1)
-        if self.connection.is_mark:
-            self.weigh(self.connection)
-        self.quit()
+    def talk(self) -> None:
+        """Does what it is to do."""
+        it = self.connection
+        with self.socket:
+            if it.kind in ("plain", "slow"):
+                for place, command in enumerate(it.commands):
+                    self.say(command, place, it.kind == "slow" and isinstance(command, Source))
+                if it.is_mark:
+                    self.weigh(it)
+                self.send(QUIT)
+            elif it.kind == "piped":
+                self.send(b"".join(map(sent, it.commands)) + QUIT * (it.way == "quit"))
+                if it.way == "end":
+                    self.finish()
+            elif it.kind == "cut":
+                if it.served:
+                    self.say(SHOW, 0, False)
+                self.send(it.part)
+            else:
+                self.send(sent(it.commands[0]) + SHOW * TABLES * (it.kind in ("late", "deaf")))
+                if it.kind != "gone" or it.served:
+                    self.wait_for_answer((0, 0) if it.kind == "gone" else (1, 1.5))
+                if it.kind == "late":
+                    self.send(QUIT)
+            if it.kind in ("plain", "slow", "piped", "late"):
+                self.read_all()
+            else:
+                self.leave()
+        if it.kind == "late":
+            self.keep_one_table()
 
-    def piped(self) -> None:
-        self.send(b"".join(map(sent, self.connection.commands)) + (QUIT if self.connection.way == "quit" else b""))
-        if self.connection.way == "end":
-            self.finish()
-        self.read_all()
-
-    def slow(self) -> None:
-        for place, command in enumerate(self.connection.commands):
-            text = sent(command)
-            delay = self.random.uniform(1, 3) / len(text) if isinstance(command, Source) else 0
-            for at in range(len(text)):
-                self.send(text[at : at + 1])
-                time.sleep(delay)
-            self.read_answers(place + 1)
-        self.quit()
-
-    def late(self) -> None:
-        """Keeps one of its tables if they are the same, as they are to be, and as many as were asked for."""
-        self.send(sent(self.connection.commands[0]) + SHOW * TABLES)
-        self.wait_for_answer((1, 1.5))
-        self.quit()
+    def keep_one_table(self) -> None:
+        """Drops all tables but the first if they are the same, as they are to be, and as many as were asked for."""
         line, _, tables = self.connection.transcript.partition(b"\n")
         first = tables[: len(tables) // TABLES]
         if first * TABLES == tables:
             self.connection.transcript = line + b"\n" + first
-
-    def cut(self) -> None:
-        if self.connection.served:
-            self.send(SHOW)
-            self.read_answers(1)
-        self.send(self.connection.part)
-        self.leave()
-
-    def gone(self) -> None:
-        self.send(sent(self.connection.commands[0]))
-        if self.connection.served:
-            self.wait_for_answer()
-        self.leave()
-
-    def deaf(self) -> None:
-        self.send(sent(self.connection.commands[0]) + SHOW * TABLES)
-        self.wait_for_answer((1, 1.5))
-        self.leave()
 
 
 class Program:

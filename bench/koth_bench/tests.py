@@ -8,8 +8,9 @@ import tempfile
 import typing
 import unittest
 
-from . import checks, pmars
+from . import checks, pmars, rows
 from .crates import crates
+from .functions import applied, constant_at, functions_in
 from .hills import Hill
 from .peer import Peer
 from .processes import kib_of, output_of, run, seconds_of
@@ -139,13 +140,13 @@ class Rules(unittest.TestCase):
 
     def test_the_one_with_the_least_points_falls(self) -> None:
         # the third one beats both others in two rounds, and these tie
-        counts = {(1, 2): (0, 2), (2, 1): (0, 2), (1, 3): (0, 0), (3, 1): (2, 0), (2, 3): (0, 0), (3, 2): (2, 0)}
-        hill = Hill(2, lambda one, other: counts[one, other])
+        matches = {(1, 2): (0, 0, 2), (1, 3): (0, 2, 0), (2, 3): (0, 2, 0)}
+        hill = Hill(2, lambda older, younger: matches[older, younger])
         self.assertEqual([hill.submit() for _ in range(3)], ["PLACED 1 1 0\n", "PLACED 2 2 2\n", "PLACED 3 1 6\n"])
         self.assertEqual((hill.ages, hill.ranked()), ({1: 2, 3: 0}, [(6, 3), (0, 1)]))
 
     def test_of_equal_ones_the_youngest_falls(self) -> None:
-        hill = Hill(1, lambda *_: (0, 1))
+        hill = Hill(1, lambda *_: (0, 0, 1))
         self.assertEqual([hill.submit(), hill.submit()], ["PLACED 1 1 0\n", "FELL 2 1\n"])
         self.assertEqual(hill.ages, {1: 0})
 
@@ -170,6 +171,23 @@ class Others(unittest.TestCase):
     def test_crates(self) -> None:
         found = crates()
         self.assertEqual((next(iter(found)), found["koth"]), ("war_types", ["koth_server"]))
+
+    def test_rows(self) -> None:
+        self.assertEqual(rows.read(rb"a\x41\(2:b\n\)\(1..2:\#\)\\"), b"aAb\nb\n12\\")
+        with self.assertRaises(KeyError):
+            rows.read(rb"\q")
+
+    def test_functions(self) -> None:
+        text = "const STEP: u8 = 3;\n\nimpl<T> Held<T> {\n    fn held(&self) -> u8 {\n        STEP\n    }\n}\n"
+        (found,) = functions_in("src/lib.rt", text, {})
+        self.assertEqual((found.path, found.first, found.body, found.last), ("Held::held", 3, 3, 5))
+        self.assertEqual((constant_at(text, 0), constant_at(text, 4)), ("STEP", None))
+        with tempfile.TemporaryDirectory() as folder:
+            write(f"{folder}/src/lib.rt", text)
+            texts, places, fault = applied("file: src/lib.rt\nold:         STEP\nnew:         4\n", folder, {})
+            self.assertEqual((places, fault), ([("src/lib.rt", 4)], None))
+            self.assertIn("        4\n", (texts or {})["src/lib.rt"])
+            self.assertIn("0 times", applied("file: src/lib.rt\nold: x\nnew: y\n", folder, {})[2] or "")
 
     def test_counts(self) -> None:
         output = "A by B scores 3\nC by D scores 5\n1 4\n2 4\nResults: 1 2 4\n"
