@@ -3,6 +3,6 @@ mod Due
 mod Fought
 mod Found
 mod Meetings
-mod Written
+pub mod Written
 mod Pages
 mod Taken

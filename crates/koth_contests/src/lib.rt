@@ -28,6 +28,8 @@ pub mod replay;
 mod rounds;
 
 pub use contest::{added, contest_tally};
-pub use lines::{contest_line, sum_line};
-pub use meeting::Terms;
+pub use lines::{contender, contest_line, sum_line};
+pub use meeting::{Terms, tell_none, write_line};
+pub use opponents::{Opponent, Place, opponents_of};
+pub use pair::NoWarrior;
 pub use rounds::{Played, first_round, round_of, rounds_text};

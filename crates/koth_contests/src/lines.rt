@@ -14,7 +14,7 @@ use std::alloc::{AllocError, Allocator};
 use war_types::Warrior;
 
 /// A warrior, with what messages call its source.
-pub(crate) fn contender<'c, A: Allocator>(file: &'c str, warrior: &'c Warrior<A>) -> Contender<'c>
+pub fn contender<'c, A: Allocator>(file: &'c str, warrior: &'c Warrior<A>) -> Contender<'c>
     ensures { contender_parts result ≡ contender (entrant file.now warrior.now) }
 {
     Contender {

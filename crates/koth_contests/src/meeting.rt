@@ -119,7 +119,7 @@ fn meet<R: Files, A: Allocator + Copy, B: Allocator, I: Read, O: Write, E: Write
 }
 
 /// Tells why an opponent has no warrior. That is a refusal, unless memory ran out.
-fn tell_none<A: Allocator + Copy, E: Write>(
+pub fn tell_none<A: Allocator + Copy, E: Write>(
     alloc: A,
     settings: &Settings,
     none: &NoWarrior<'_, A>,
@@ -159,7 +159,7 @@ fn tell_progress<A: Allocator, E: Write>(
 }
 
 /// Writes a line, if there was memory for it.
-fn write_line<A: Allocator + Copy, O: Write, E: Write>(
+pub fn write_line<A: Allocator + Copy, O: Write, E: Write>(
     alloc: A,
     line: Result<Vec<u8, A>, AllocError>,
     output: &mut O,

@@ -19,14 +19,14 @@ const NAMES_LIMIT: usize = 1_048_576;
 
 /// An opponent, by what messages call its source.
 #[derive(Drop)]
-pub(crate) struct Opponent<A: Allocator> {
-    pub(crate) name: String<A>,
-    pub(crate) place: Place,
+pub struct Opponent<A: Allocator> {
+    pub name: String<A>,
+    pub place: Place,
 }
 
 /// Where the source of an opponent is read.
 #[derive(Clone, Copy)]
-pub(crate) enum Place {
+pub enum Place {
     /// From standard input.
     Input,
     /// From the file of its name.
@@ -39,7 +39,7 @@ pub(crate) enum Place {
 
 impl<A: Allocator + Copy> Opponent<A> {
     /// The warrior that its source assembles to.
-    pub(crate) fn warrior<R: Files, I: Read>(
+    pub fn warrior<R: Files, I: Read>(
         &self,
         rt: &R,
         alloc: A,
@@ -82,7 +82,7 @@ fn is_special<R: Files>(rt: &R, path: &str) -> bool {
 
 /// The opponents that words stand for, in their order. A folder stands for the files in it whose names end with `.red`
 /// and don't begin with a point, in the order of the bytes of their names. The error is lack of memory.
-pub(crate) fn opponents_of<R: Files, A: Allocator + Copy>(
+pub fn opponents_of<R: Files, A: Allocator + Copy>(
     rt: &R,
     alloc: A,
     words: &[Source<'_>],

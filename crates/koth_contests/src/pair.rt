@@ -22,7 +22,7 @@ pub(crate) struct Pair<A: Allocator> {
 
 /// Why there is no warrior.
 #[derive(Drop)]
-pub(crate) enum NoWarrior<'f, A: Allocator> {
+pub enum NoWarrior<'f, A: Allocator> {
     /// The source that is called this is refused.
     Refused(&'f str, Vec<u8, A>, AsmFault),
     /// The source can't be read, or memory ran out.

@@ -1,6 +1,6 @@
 -- The match of one pair more adds its rounds to those of its two sides, and to no others.
-use Rattle.std.proofs.Common.{◌≡◌, inl, inr, ◌⊎◌, ℕ, ◌+◌, ◌*◌, ◌<◌, ◌≤◌, ◌≢◌, List, [], ◌∷◌, ◌++◌, length, map, get_or, replicate, set, All, refl, sym, ap, ap₂, ◌∙◌, subst, arith}
-use Rattle.std.{specs.List.{range_with_len, sum_by}, proofs.lemmas.{Bool.{cases_eq, cond-true, cond-false, eq-eqb, ne_eqb}, List.{get_or-set_same, get_or-set_other, get_or-replicate, length-append, length-replicate, length-set}, List.Sums.sum_by_push}}
+use Rattle.std.proofs.Common.{◌≡◌, inl, inr, ◌⊎◌, ℕ, ◌+◌, ◌*◌, ◌<◌, ◌≤◌, ◌≢◌, List, [], ◌∷◌, ◌++◌, length, get_or, replicate, All, sym, ap, ap₂, ◌∙◌, subst, arith}
+use Rattle.std.{proofs.lemmas.{Bool.{cases_eq, cond-true, cond-false, eq-eqb, ne_eqb}, List.{get_or-set_same, get_or-set_other, get_or-replicate, length-append, length-replicate, length-set}, List.Sums.sum_by_push}}
 use Rattle.std.proofs.lemmas.List.{FromFn.{fill_by_all, get_or-map-range_with_len, length-map-range_with_len}, Elements.{All-get_or, All-set, All-weaker}}
 use Rattle.{koth_text.specs.declared.tally.Tally.Tally, koth_standings.specs.{declared.pairs.Pair.Pair, Pairs.IsPair}}
 use Rattle.koth_standings.specs.Standings.{AreStandings, StandingsParts, at_place, both, counts_of, most_matches, most_rounds, no_rounds, rounds_in, rounds_of, rounds_of_side, tally, turned, with_match}

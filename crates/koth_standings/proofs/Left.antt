@@ -1,5 +1,5 @@
 -- The pairs that are left once the next was taken.
-use Rattle.std.proofs.Common.{◌≡◌, ℕ, zero, suc, ◌+◌, ◌-◌, ◌*◌, ◌<◌, ◌≤◌, List, [], ◌∷◌, ◌++◌, get_or, length, map, refl, sym, ap, subst, ◌∙◌, arith}
+use Rattle.std.proofs.Common.{◌≡◌, ℕ, zero, suc, ◌+◌, ◌-◌, ◌*◌, ◌<◌, ◌≤◌, [], ◌∷◌, ◌++◌, get_or, length, map, refl, sym, ap, subst, ◌∙◌, arith}
 use Rattle.std.proofs.lemmas.{List.length-map, List.{Concat.length-flat_map, Elements.All-from_get_or, FromFn.length-range_with_len, Sums.sum_by-le}}
 use Rattle.{std.specs.List.{flat_map, range_with_len, sum_by}, koth_standings.specs.Pairs.{pair, pairs, pairs_after, pairs_from, pairs_of}}
 

@@ -1,6 +1,6 @@
 -- Small fields, computed: the pairs written out, and counts added by hand.
-use Rattle.std.proofs.Common.{◌≡◌, ◌==◌, if◌then◌else◌, List, [], ◌∷◌, refl}
-use Rattle.{koth_text.specs.{Tally.points_of, declared.tally.Tally.Tally}, koth_standings.specs.{declared.pairs.Pair.Pair, Pairs.{pair, pairs}, Standings.{counts_of, tally}, Ranking.points_at}}
+use Rattle.std.proofs.Common.{◌≡◌, ◌==◌, if◌then◌else◌, [], ◌∷◌, refl}
+use Rattle.{koth_text.specs.{declared.tally.Tally.Tally}, koth_standings.specs.{declared.pairs.Pair.Pair, Pairs.{pair, pairs}, Standings.{counts_of, tally}, Ranking.points_at}}
 
 no_field : pairs 0 ≡ []
 no_field = refl

@@ -1,6 +1,6 @@
 -- Sorted keys are a ranking.
-use Rattle.std.proofs.Common.{◌≡◌, inl, inr, ◌⊎◌, ℕ, ◌+◌, ◌<◌, ◌≤◌, Bool, true, false, List, Result, Ok, Err, IfOk, Vec, length, map, get_or, All, refl, sym, ap, subst, ◌∙◌, arith}
-use Rattle.std.{specs.{Prelude.{IsPermutation, IsSorted}, List.range_with_len, Ordering.{is_lt, nat_cmp, ordering_then}, declared.cmp.{Ordering.Ordering, Reverse.Reverse}, declared.cmp.Ordering.TheVariants.{Less, Equal}}}
+use Rattle.std.proofs.Common.{◌≡◌, inl, inr, ◌⊎◌, ℕ, ◌+◌, ◌<◌, ◌≤◌, false, List, Result, Ok, Err, IfOk, Vec, length, map, get_or, All, refl, sym, ap, subst, ◌∙◌, arith}
+use Rattle.std.{specs.{Prelude.{IsPermutation, IsSorted}, List.range_with_len, Ordering.{is_lt, nat_cmp, ordering_then}, declared.cmp.{Reverse.Reverse}, declared.cmp.Ordering.TheVariants.{Less, Equal}}}
 use Rattle.std.proofs.lemmas.{Bool.{both_ways, cases_lt, cases_order, cond-true, cond-false, eq-eqb, lt-ltb, le-ltb}, List.{get_or-map, length-map, map-id}, Simd.map-map}
 use Rattle.std.proofs.lemmas.List.{Elements.{All-from_get_or, All-get_or, All-map}, Sorted.{All-permutation, IsPermutation-map}}
 use Rattle.{koth_text.specs.declared.tally.Tally.Tally, koth_standings.specs.Ranking.{IsBefore, IsRanking, key_at, keys_of, places_of, points_at}}

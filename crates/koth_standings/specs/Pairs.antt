@@ -1,5 +1,5 @@
 -- The pairs of a field, in their order. Warriors are named by their places in the field, counted from 0.
-use Rattle.std.specs.{Prelude.{◌≡◌, ℕ, ◌+◌, ◌-◌, ◌<◌, ◌≤◌, List, ◌++◌, map}, List.{flat_map, range_with_len}}
+use Rattle.std.specs.{Prelude.{ℕ, ◌+◌, ◌-◌, ◌<◌, ◌≤◌, List, ◌++◌, map}, List.{flat_map, range_with_len}}
 use Rattle.koth_standings.specs.declared.pairs.{Pair.Pair, Pairs.Pairs}
 
 -- the earlier place of a pair has the older warrior

@@ -1,6 +1,6 @@
 -- The rounds of each warrior of a field in some matches, each of which is the match of a pair.
-use Rattle.std.specs.{Prelude.{◌≡◌, ℕ, ◌+◌, ◌*◌, ◌≤◌, ◌==◌, if◌then◌else◌, List, [], ◌∷◌, ◌++◌, map, length, get_or, set, All}, List.{range_with_len, sum_by}}
-use Rattle.{koth_text.specs.declared.tally.Tally.Tally, koth_standings.specs.{declared.pairs.Pair.Pair, Pairs.pair}}
+use Rattle.std.specs.{Prelude.{◌≡◌, ℕ, ◌+◌, ◌*◌, ◌≤◌, ◌==◌, if◌then◌else◌, List, map, length, get_or, set, All}, List.{range_with_len, sum_by}}
+use Rattle.{koth_text.specs.declared.tally.Tally.Tally, koth_standings.specs.{declared.pairs.Pair.Pair}}
 
 abbrev pub tally : ℕ → ℕ → ℕ → Tally
 tally won lost tied = record { won = won; lost = lost; tied = tied }

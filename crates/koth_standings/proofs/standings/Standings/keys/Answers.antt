@@ -1,5 +1,5 @@
 -- The key of one place more.
-use Rattle.std.{proofs.Common.{◌≡◌, ◌∙◌, ℕ, List, [], ◌∷◌, ◌++◌, ap, ap₂, arith, sym}, specs.declared.cmp.Reverse.Reverse, proofs.lemmas.List.FromFn.map-range_with_len_more}
+use Rattle.std.{proofs.Common.{◌∙◌, ℕ, List, [], ◌∷◌, ◌++◌, ap, ap₂, arith, sym}, specs.declared.cmp.Reverse.Reverse, proofs.lemmas.List.FromFn.map-range_with_len_more}
 use Rattle.{koth_text.specs.Tally.points_of, koth_standings.specs.Ranking.key_at}
 use Rattle.koth_standings.proofs.standings.Standings.keys.Goals as goal
 
