@@ -45,6 +45,11 @@ _koth_takes() {
             valued='--port --peers --peers-per-address --steps --listen --connections --http --host --preset -s --core -p --processes -l --length -d --distance -c --cycles -r --rounds --read-limit --write-limit --seed --capacity'
             kinds=('file')
             ;;
+        'session')
+            options='--wait --steps -h --help'
+            valued='--wait --steps'
+            kinds=('file')
+            ;;
         'audit')
             options='--format -h --help'
             valued='--format'
@@ -134,7 +139,7 @@ _koth_read() {
 }
 
 _koth() {
-    local names='asm check fight create submit show serve audit migrate page replay try copy reseed help'
+    local names='asm check fight create submit show serve session audit migrate page replay try copy reseed help'
     local word=${COMP_WORDS[COMP_CWORD]} options valued kinds further kind command='' owner='' ended='' count=0
     [[ $word == '=' ]] && word=''
     _koth_takes ''

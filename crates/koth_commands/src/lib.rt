@@ -34,5 +34,5 @@ pub use settings::refuse_settings;
 pub use source::{open_source, source_name, text_from};
 pub use status::Status;
 pub use stream::{StreamFault, fill, write_whole};
-pub use telling::tell_word;
+pub use telling::{Apart, tell_text, tell_word};
 pub use trouble::{About, Fault, Trouble};

@@ -82,6 +82,9 @@ serve_app = with_settings (with_flag (with_flag (with_flag (with_rule (with_rang
     (codes "FILE")) (required_rule (codes "port") 65535)) (codes "peers") 1 1024) (codes "peers-per-address") 1 1024) (codes "steps")) (text_rule (codes "listen"))) (codes "connections")) (codes "http") 0 65535)
     (texts_rule (codes "host"))) (codes "replays")) (codes "quiet")) (codes "create"))
 
+abbrev pub session_app : App
+session_app = with_option (with_ranged (with_file (new_app (codes "session")) (codes "FILE")) (codes "wait") 1 3600) (codes "steps")
+
 abbrev pub audit_app : App
 audit_app = with_format (with_file (new_app (codes "audit")) (codes "FILE"))
 
@@ -106,7 +109,7 @@ reseed_app = with_option (with_file (with_file (new_app (codes "reseed")) (codes
 
 -- the commands, in the order of the help
 abbrev pub koth_commands : List App
-koth_commands = asm_app ∷ check_app ∷ fight_app ∷ create_app ∷ submit_app ∷ show_app ∷ serve_app ∷ audit_app
+koth_commands = asm_app ∷ check_app ∷ fight_app ∷ create_app ∷ submit_app ∷ show_app ∷ serve_app ∷ session_app ∷ audit_app
     ∷ migrate_app ∷ page_app ∷ replay_app ∷ try_app ∷ copy_app ∷ reseed_app ∷ []
 
 -- the program: `koth`, and a command's name with its files and options

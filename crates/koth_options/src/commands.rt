@@ -8,8 +8,9 @@ use crate::arguments::Argument::{
     File, Flag, Number, Page, Port, Ranged, SourceOrInput, Sources, Text, Texts,
 };
 use crate::building::{Row, Takes, described, with_rows};
-use crate::default_steps;
-use crate::options::{FORMAT, HILL_FILE, KEPT_FILE, NAME, PLAIN, TABLE, WARRIOR, help};
+use crate::options::{
+    FORMAT, HILL_FILE, KEPT_FILE, NAME, PLAIN, STEPS, TABLE, WAIT, WARRIOR, help,
+};
 use clap::Command;
 use std::alloc::{AllocError, Global};
 use war_types::range_of;
@@ -93,20 +94,7 @@ const TO_SERVE: [Row; 4] = [
     Row {
         name: "submit",
         about: "Submits a warrior to a hill, and writes whether it is placed, falls or is refused",
-        arguments: &[
-            HILL_FILE,
-            WARRIOR,
-            Ranged(
-                "wait",
-                1,
-                3600,
-                "Seconds to wait if another program has the hill's lock, 1 to 3600 [default: none]",
-            ),
-            NAME,
-            PLAIN,
-            TABLE,
-            FORMAT,
-        ],
+        arguments: &[HILL_FILE, WARRIOR, WAIT, NAME, PLAIN, TABLE, FORMAT],
         takes: Takes::Nothing,
     },
     Row {
@@ -147,13 +135,7 @@ const TO_SERVE: [Row; 4] = [
                 1024,
                 "Most peers of one address served at once, and as many browsers, 1 to 1024; further ones are refused [default: no limit]",
             ),
-            Number(
-                "steps",
-                default_steps!(
-                    help,
-                    "Steps that the assembly of a source may take, 0 to 4294967295"
-                ),
-            ),
+            STEPS,
             Text(
                 "listen",
                 "ADDRESS",
@@ -188,8 +170,14 @@ const TO_SERVE: [Row; 4] = [
     },
 ];
 
-/// The commands from `audit` on.
-const TO_RESEED: [Row; 7] = [
+/// The commands from `session` on.
+const TO_RESEED: [Row; 8] = [
+    Row {
+        name: "session",
+        about: "Serves one session on a hill over standard input and output",
+        arguments: &[HILL_FILE, WAIT, STEPS],
+        takes: Takes::Nothing,
+    },
     Row {
         name: "audit",
         about: "Plays the match of each pair on a hill again, and writes whether all kept results are right",

@@ -4,7 +4,7 @@ ghost use Rattle.std.specs.Prelude.{IfOk};
 ghost use Rattle.clap.specs.Words.{App};
 ghost use Rattle.koth_options.specs.{Commands.IsReadAs, Options.{with_like, with_settings}};
 
-use crate::arguments::Argument::{self, File, Flag, Lettered, Number, Text};
+use crate::arguments::Argument::{self, File, Flag, Lettered, Number, Ranged, Text};
 use crate::building::{headed, with_arguments};
 use clap::Command;
 use std::alloc::{AllocError, Global};
@@ -58,6 +58,23 @@ pub(crate) const KEPT_FILE: Argument = File("FILE", "Hill file, which stays as i
 pub(crate) const WARRIOR: Argument = File(
     "SOURCE",
     "File of the warrior's source; - is standard input",
+);
+
+/// The option for how long another program may have the lock of a hill.
+pub(crate) const WAIT: Argument = Ranged(
+    "wait",
+    1,
+    3600,
+    "Seconds to wait if another program has the hill's lock, 1 to 3600 [default: none]",
+);
+
+/// The option for the steps that the assembly of a source may take in a session.
+pub(crate) const STEPS: Argument = Number(
+    "steps",
+    default_steps!(
+        help,
+        "Steps that the assembly of a source may take, 0 to 4294967295"
+    ),
 );
 
 /// The option for a hill that has the settings.

@@ -1,10 +1,10 @@
 -- What a run promises for its arguments, from how its request ended, or from why there is none.
 use Rattle.std.proofs.Common.{◌≡◌, ◌≢◌, ◌⊎◌, ℕ, Bool, Bor, true, false, true≢false, if◌then◌else◌, is_some, ap, List, [], IfOk, Option, None, Some, Result, Ok, Err, inl, inr, ◌∙◌, refl, sym, subst, codes, option_map}
 use Rattle.{std.specs.{Prelude.{⊤, unwrap_or}, Str.bytes_eq}, std.proofs.{KnownBytes.{Consumes-nil, Keeps-refl}}, std.specs.Io.KnownBytes.Keeps, clap.specs.Walk.{Row, Text}}
-use Rattle.{clap.specs.Words.first_of, war_types.specs.{declared.settings.RawSettings.RawSettings, declared.settings.SettingsFault.SettingsFault, Settings.settings_of}}
-use Rattle.koth_words.specs.{Settings.{IsGiven, base_in, chosen_in, over, settings_in}, Sources.{Place, input_name, is_input as is_dash, place, place_named, places_named}, Words.{AsksBy, IsHelp, IsRefusal, given_in, has_flag, text_or_none, view_in}}
+use Rattle.{clap.specs.Words.{first_of, one_of}, war_types.specs.{declared.settings.RawSettings.RawSettings, declared.settings.SettingsFault.SettingsFault, Settings.settings_of}}
+use Rattle.koth_words.specs.{Options.number_or, declared.serving.TheConstants.STEPS, Settings.{IsGiven, base_in, chosen_in, over, settings_in}, Sources.{Place, input_name, is_input as is_dash, place, place_named, places_named}, Words.{AsksBy, IsHelp, IsRefusal, given_in, has_flag, text_or_none, view_in}}
 use Rattle.{koth_words.specs.{declared.settings.{Chosen.Chosen, Given.Given}, declared.requests.NoRequest.NoRequest}}
-use Rattle.koth_words.specs.{declared.requests.Request.Request, declared.requests.Request.TheVariants.{Asm, Check, Fight, Create, Submit, Show, Serve, Audit, Migrate, Page, Replay, Try, Copy, Reseed}}
+use Rattle.koth_words.specs.{declared.requests.Request.Request, declared.requests.Request.TheVariants.{Asm, Check, Fight, Create, Submit, Show, Serve, Session, Audit, Migrate, Page, Replay, Try, Copy, Reseed}}
 use Rattle.{koth_words.specs.{declared.requests.Source.Source, declared.requests.View.View}, koth_commands.specs.{Answer.{AnswerParts, EndsGiven}, Asm.{EndsAsmFrom, IsDoneFrom, status_of}}}
 use Rattle.koth_commands.specs.{Check.{EndsCheck, EndsCheckUnder, input_next}, Report.{Manner, manner_of, status_by}}
 use Rattle.{war_types.specs.{Warrior.WarriorParts, declared.fault.AsmFault.AsmFault}, redcode_asm.specs.Assembly.assembly, koth_commands.proofs.Checks.none_checked, koth_server.proofs.Statuses.{IsNone, delivered}}
@@ -12,7 +12,7 @@ use Rattle.koth_commands.specs.{Streams.{From, Streams, TakesSome, at_input, is_
 use Rattle.koth_commands.proofs.Told.{kept_part, writes_nothing}
 use Rattle.koth_keeping.specs.{Answers.{Answers, AnswersGiven, Ends, Outcome, SaysLine}, Created.{MayCreate, SaysCreated}, Audit.SaysAudit, Copies.{MayReseed, SaysCopied}, Migration.migrated_line, Seed.seed_hint}
 use Rattle.koth_hills.specs.{Hills.{AfterNote, EndsSource, SaysReply, SaysShown, TellsNote, sight_of}, Page.SaysPage, Trials.SaysTrial}
-use Rattle.koth_server.specs.{Serving.{EndsServe, EndsService, listening_line}, Run.{CommandEnds, EndsRequest, EndsRequestUnder, EndsHelp, EndsWithout, AreWatched, FightEnds, ReplayEnds, manner_in, sight_in, viewed}, Settled.{AreSettled, EndsBy, EndsSettled, EndsUnderGiven, TellsNoHill, names_hill}}
+use Rattle.koth_server.specs.{Serving.{EndsServe, EndsService, listening_line}, Session.EndsOnFile, Run.{CommandEnds, SessionEnds, EndsRequest, EndsRequestUnder, EndsHelp, EndsWithout, AreWatched, FightEnds, ReplayEnds, manner_in, sight_in, viewed}, Settled.{AreSettled, EndsBy, EndsSettled, EndsUnderGiven, TellsNoHill, names_hill}}
 use Rattle.koth_words.specs.declared.requests.{Fighters.Fighters, Round.Round}
 use Rattle.koth_contests.specs.{Fight.{EndsFight, EndsFightUnder}, Replay.{EndsReplay, EndsReplayUnder, with_round}}
 
@@ -45,10 +45,11 @@ EndsNamed name view given status before after =
     (Either (bytes_eq name (codes "migrate")) (Ends (Answers (SaysLine migrated_line)) status u v)
     (Either (bytes_eq name (codes "page")) (AfterNote (Ends (Answers SaysPage) status) u v)
     (Either (bytes_eq name (codes "serve")) (AfterNote (EndsServe (settings_of (settings_in given)) status) u v)
+    (Either (bytes_eq name (codes "session")) (AfterNote (SessionEnds given status) before after)
     (Either (bytes_eq name (codes "replay")) (EndsBy given (λ s. ReplayEnds given (settings_of s) status u v) status before after)
     (Either (bytes_eq name (codes "try")) (AfterNote (EndsSource (reads_in given) (SaysTrial shown) status) before after)
     (Either (bytes_eq name (codes "copy")) (AfterNote (Ends (Answers (SaysCopied (has_flag (codes "audit") given))) status) u v)
-    (Either (bytes_eq name (codes "reseed")) (AfterNote (Ends MayReseed status) u v) ⊤)))))))))))))
+    (Either (bytes_eq name (codes "reseed")) (AfterNote (Ends MayReseed status) u v) ⊤))))))))))))))
 
 -- ---- a request: the command that the arguments name ended so, under the settings that they give
 
@@ -133,6 +134,9 @@ module _ (view : View) (e : Text × List Row) (status : Status) (before after : 
       (subst (λ m. AfterNote (Ends (Answers (SaysShown (viewed shown.view view) m)) status) (unread before) (unread after)) same ends.0.1))
   named (Serve given service) asks ends =
       subst Carries (sym asks.0) (subst (λ s. AfterNote (EndsServe (settings_of s) status) (unread before) (unread after)) asks.1 ends.0.1)
+  named (Session session) asks ends = subst Carries (sym asks.0)
+      (subst (λ s. AfterNote (EndsOnFile (text_or_none (first_of (codes "FILE") e.1)) s status) before after) asks.3
+      (subst (λ h. AfterNote (EndsOnFile h session.steps status) before after) asks.1 ends.0.1))
   named (Audit audited) asks ends = subst Carries (sym asks.0)
       (subst (λ v. AfterNote (Ends (Answers (SaysAudit (viewed v view))) status) (unread before) (unread after)) asks.2 ends.0.1)
   named (Migrate files) asks ends = subst Carries (sym asks.0) ends.0.1
@@ -275,6 +279,9 @@ module _ (i o p e f : Option (List ℕ)) (kept : Keeps o p) (told : Tells no_mem
   serve_no_memory : (r : Result RawSettings SettingsFault) → EndsServe r NoMemory (streams None o e) (streams None p f)
   serve_no_memory r = given_no_memory None o p e f kept told (λ s. EndsService) r (λ s. service_no_memory None o p e f kept told)
 
+  session_no_memory : (path : Text) (steps : ℕ) → EndsOnFile path steps NoMemory (streams i o e) (streams i p f)
+  session_no_memory path steps = inr (record { trouble = no_memory; of_hill = refl; input = Keeps-refl i; output = kept; told = told })
+
   under_no_memory : (like : Bool) (base : RawSettings) (chosen : Chosen) (ends : RawSettings → Type 0) → ((s : RawSettings) → ends s)
       → EndsUnderGiven like base chosen ends NoMemory (streams i o e) (streams i p f)
   under_no_memory false base chosen ends holds = inl (over base chosen, refl, holds (over base chosen))
@@ -305,10 +312,11 @@ module _ (i o p e f : Option (List ℕ)) (kept : Keeps o p) (told : Tells no_mem
       (either (bytes_eq name (codes "migrate")) _ _ (may (Answers (SaysLine migrated_line)) refl)
       (either (bytes_eq name (codes "page")) _ _ (e, none, may (Answers SaysPage) refl)
       (either (bytes_eq name (codes "serve")) _ _ (e, none, serve_no_memory (settings_of (settings_in given)))
+      (either (bytes_eq name (codes "session")) _ _ (e, none, session_no_memory (text_or_none (first_of (codes "FILE") given)) (number_or STEPS (one_of (codes "steps") given)))
       (either (bytes_eq name (codes "replay")) _ _ (by_no_memory given (λ s. ReplayEnds given (settings_of s) NoMemory u v) (λ s. inr (kept, told)))
       (either (bytes_eq name (codes "try")) _ _ (e, none, source_no_memory i o p e f kept told of_input (SaysTrial shown))
       (either (bytes_eq name (codes "copy")) _ _ (e, none, may (Answers (SaysCopied (has_flag (codes "audit") given))) refl)
-      (either (bytes_eq name (codes "reseed")) _ ⊤ (e, none, may MayReseed tt) tt)))))))))))))
+      (either (bytes_eq name (codes "reseed")) _ ⊤ (e, none, may MayReseed tt) tt))))))))))))))
 
 module _ (i o p e f : Option (List ℕ)) (status : Status) where
   pub without : (name : Text) (view : View) (given : List Row) (none : NoRequest) → none ≡ NoRequest.Memory

@@ -4,5 +4,7 @@ pub mod Serving
 pub mod Pages
 -- The settings under which a command is carried out.
 pub mod Settled
+-- How a session over standard input and output ends.
+pub mod Session
 -- The number that a run leaves with.
 pub mod Run

@@ -1,14 +1,14 @@
 -- How a run ends.
 use Rattle.std.specs.{Prelude.{◌≡◌, ◌≢◌, ◌⊎◌, ◌||◌, ⊤, ℕ, List, Option, Result, codes, is_some, option_map, unwrap_or}, Io.KnownBytes.Keeps}
-use Rattle.{clap.specs.Words.{Row, first_of}, war_types.specs.{Settings.settings_of, declared.settings.{RawSettings.RawSettings, SettingsFault.SettingsFault}}, koth_words.specs.Sources.{place, place_named, places_named}}
+use Rattle.{clap.specs.Words.{Row, first_of, one_of}, war_types.specs.{Settings.settings_of, declared.settings.{RawSettings.RawSettings, SettingsFault.SettingsFault}}, koth_words.specs.Sources.{place, place_named, places_named}}
 use Rattle.{koth_words.specs.declared.requests.{Fighters.Fighters, Watched.Watched}, koth_contests.specs.{Fight.EndsFight, Replay.EndsReplay}}
-use Rattle.koth_words.specs.{Words.{draw_seed_named, form_in, given_by, given_of, has_flag, has_option, matches_in, reads_input, round_in, settings_named, view_named, AreFighters, AreTaken, AreWrong, AskForHelp, AsksFor}, declared.requests.NoRequest.NoRequest}
-use Rattle.koth_words.specs.{declared.requests.Request.Request, declared.requests.Request.TheVariants.{Asm, Check, Fight, Create, Submit, Show, Serve, Audit, Migrate, Page, Replay, Try, Copy, Reseed}}
+use Rattle.koth_words.specs.{Options.number_or, declared.serving.TheConstants.STEPS, Words.{text_or_none, draw_seed_named, form_in, given_by, given_of, has_flag, has_option, matches_in, reads_input, round_in, settings_named, view_named, AreFighters, AreTaken, AreWrong, AskForHelp, AsksFor}, declared.requests.NoRequest.NoRequest}
+use Rattle.koth_words.specs.{declared.requests.Request.Request, declared.requests.Request.TheVariants.{Asm, Check, Fight, Create, Submit, Show, Serve, Session, Audit, Migrate, Page, Replay, Try, Copy, Reseed}}
 use Rattle.{koth_words.specs.declared.requests.View.View, koth_commands.specs.{Asm.EndsAsmFrom, Check.{EndsCheck, places_of}, Report.{Manner, manner_of}}}
 use Rattle.koth_commands.specs.{Status.status_code, Streams.{Streams, is_input, unread}, Trouble.{Tells, no_memory}, declared.status.Status.Status}
 use Rattle.koth_keeping.specs.{Answers.{Answers, Ends, SaysLine}, Created.MayCreate, Audit.SaysAudit, Copies.{MayReseed, SaysCopied}, Migration.migrated_line}
 use Rattle.koth_hills.specs.{Hills.{AfterNote, EndsSource, SaysReply, SaysShown, Sight, sight_of}, Trials.SaysTrial, Page.SaysPage}
-use Rattle.koth_server.specs.{Serving.EndsServe, Settled.{EndsBy, EndsSettled}}
+use Rattle.koth_server.specs.{Serving.EndsServe, Session.EndsOnFile, Settled.{EndsBy, EndsSettled}}
 
 -- the code is that of a status of which this holds
 abbrev pub Leaves : ℕ → (Status → Type 0) → Type 0
@@ -38,6 +38,7 @@ CommandEnds settings view (Audit audited) status before after =
 CommandEnds settings view (Migrate files) status before after = Ends (Answers (SaysLine migrated_line)) status (unread before) (unread after)
 CommandEnds settings view (Page file) status before after = AfterNote (Ends (Answers SaysPage) status) (unread before) (unread after)
 CommandEnds settings view (Serve given service) status before after = AfterNote (EndsServe (settings_of given) status) (unread before) (unread after)
+CommandEnds settings view (Session session) status before after = AfterNote (EndsOnFile session.hill.now session.steps status) before after
 CommandEnds settings view (Replay given watched) status before after =
     EndsReplay watched.round (is_some watched.page) (settings_of settings) status (unread before) (unread after)
 CommandEnds settings view (Try files) status before after = AfterNote (EndsSource (is_input files.source) (SaysTrial (viewed files.view view)) status) before after
@@ -52,6 +53,11 @@ EndsRequestUnder settings view request status before after = CommandEnds setting
 abbrev pub EndsRequest : View → Request → Status → Streams → Streams → Type 0
 EndsRequest view request status before after =
     EndsSettled (given_of request) (λ settings. CommandEnds settings view request status before after) status before after × (status ≢ Status.WordFault)
+
+-- how `session` of what these words name ends
+abbrev pub SessionEnds : List Row → Status → Streams → Streams → Type 0
+SessionEnds rows status before after =
+    EndsOnFile (text_or_none (first_of (codes "FILE") rows)) (number_or STEPS (one_of (codes "steps") rows)) status before after
 
 -- how a run ends that was asked for help or for the version: that is written, or the output failed, or memory ran out
 abbrev pub EndsHelp : Status → Type 0
@@ -118,6 +124,7 @@ pub record EndsRun (view : View) (given : List (List ℕ)) (status : Status) (be
   pub page : AsksFor view (codes "page") given → AfterNote (Ends (Answers SaysPage) status) (unread before) (unread after)
   pub serve : AsksFor view (codes "serve") given
       → AfterNote (EndsServe (settings_of (settings_named given)) status) (unread before) (unread after)
+  pub session : AsksFor view (codes "session") given → AfterNote (SessionEnds (given_by given) status) before after
   pub replay : AsksFor view (codes "replay") given
       → EndsBy (given_by given) (λ s. ReplayEnds (given_by given) (settings_of s) status (unread before) (unread after)) status before after
   pub trial : AsksFor view (codes "try") given

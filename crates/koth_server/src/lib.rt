@@ -6,12 +6,13 @@
 //! - `arguments` and `typed`: an argument that is no text, and standard input at a terminal, both before anything is read;
 //! - `program`: `run`, which carries out what the arguments of the command line ask for, by `koth_words`, and ends with a status;
 //! - `settled`: the settings under which a command is carried out;
+//! - `one_session`: one session over standard input and output;
 //! - `serve`: the service of a hill, `ports`: where it listens, and `log`: what it reports;
 //! - `pages`: the pages that browsers ask it for;
 //! - `host`: what it goes on with when its device failed.
 //!
 //! The clause of `run` gives what is written and how it ends as a function of the arguments and of what was read
-//! (`asm`, `fight`, `create`, `submit`, `try`, `show`, `page`, `audit`, `copy`, `reseed`, `migrate`, `serve`). At wrong
+//! (`asm`, `fight`, `create`, `submit`, `try`, `show`, `page`, `audit`, `copy`, `reseed`, `migrate`, `serve`, `session`). At wrong
 //! arguments nothing is read, and nothing is written on the output (`word_fault`). What a service does is in
 //! `koth_service`.
 //!
@@ -24,6 +25,7 @@
 mod arguments;
 mod host;
 mod log;
+mod one_session;
 mod pages;
 mod ports;
 mod program;

@@ -3,6 +3,7 @@
 ghost use Rattle.std.specs.Prelude.{◌≡◌, None, map, string_bytes};
 ghost use Rattle.{koth_commands.specs.Streams.streams, koth_server.specs.Run.{viewed, EndsRequest, EndsRequestUnder, EndsRun, EndsWithout, Leaves}};
 
+use crate::one_session::session;
 use crate::serve::serve;
 use crate::settled::settled;
 use hill_file::TryLock;
@@ -150,6 +151,10 @@ where
         Request::Serve(given, ref service) => {
             tell_lost_header(rt, alloc, service.hill, errors);
             return serve(rt, alloc, given, service, output, errors);
+        }
+        Request::Session(asked) => {
+            tell_lost_header(rt, alloc, asked.hill, errors);
+            return session(rt, alloc, asked, input, output, errors);
         }
         Request::Create(_, creation) => perform_create(rt, alloc, settings, creation),
         Request::Migrate(files) => perform_migrate(rt, alloc, files),

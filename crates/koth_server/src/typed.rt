@@ -6,8 +6,8 @@ use koth_commands::write_whole;
 use std::io;
 use std::io::{ErrorKind, Read, Write};
 
-/// What is written before a source is read from a terminal.
-const HINT: &[u8] = b"reading the source from standard input; Ctrl-D ends it\n";
+/// What is written before a terminal is read.
+const HINT: &[u8] = b"reading from standard input; Ctrl-D ends it\n";
 
 /// An input that may be a terminal. If it is one, the first read is reported before it begins, since it waits for somebody who types. An input
 /// that is a folder is told as one that isn't connected: the program has a folder in the place of a closed one.

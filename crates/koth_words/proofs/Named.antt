@@ -27,41 +27,42 @@ named app m words is has = ap (option_map (λ p. p.0)) (sym (found app m words i
 
 -- ---- words without fault name a command
 
-abbrev met_by : Bool → Bool → Bool → Bool → Bool → Bool → Bool → Bool → Bool → Bool → Bool → Bool → Bool → Bool → Bool → Option Text
-met_by asm check fight create submit show serve audit migrate page replay try copy reseed help = option_map (λ (s : Text × List Text). s.0) (
+abbrev met_by : Bool → Bool → Bool → Bool → Bool → Bool → Bool → Bool → Bool → Bool → Bool → Bool → Bool → Bool → Bool → Bool → Option Text
+met_by asm check fight create submit show serve session audit migrate page replay try copy reseed help = option_map (λ (s : Text × List Text). s.0) (
     if asm || false then Some (codes "asm", []) else if check || false then Some (codes "check", [])
     else if fight || false then Some (codes "fight", []) else if create || false then Some (codes "create", [])
     else if submit || false then Some (codes "submit", []) else if show || false then Some (codes "show", [])
-    else if serve || false then Some (codes "serve", []) else if audit || false then Some (codes "audit", [])
-    else if migrate || false then Some (codes "migrate", []) else if page || false then Some (codes "page", [])
-    else if replay || false then Some (codes "replay", []) else if try || false then Some (codes "try", [])
-    else if copy || false then Some (codes "copy", []) else if reseed || false then Some (codes "reseed", [])
-    else if help || false then Some (codes "help", []) else None)
+    else if serve || false then Some (codes "serve", []) else if session || false then Some (codes "session", [])
+    else if audit || false then Some (codes "audit", []) else if migrate || false then Some (codes "migrate", [])
+    else if page || false then Some (codes "page", []) else if replay || false then Some (codes "replay", [])
+    else if try || false then Some (codes "try", []) else if copy || false then Some (codes "copy", [])
+    else if reseed || false then Some (codes "reseed", []) else if help || false then Some (codes "help", []) else None)
 
-met_is_command : (asm check fight create submit show serve audit migrate page replay try copy reseed help : Bool) (word : Text) (h : Held)
-    → other_fault (built koth_app).top (met_by asm check fight create submit show serve audit migrate page replay try copy reseed help) word h ≡ []
-    → IfSome (met_by asm check fight create submit show serve audit migrate page replay try copy reseed help) IsCommandName
+met_is_command : (asm check fight create submit show serve session audit migrate page replay try copy reseed help : Bool) (word : Text) (h : Held)
+    → other_fault (built koth_app).top (met_by asm check fight create submit show serve session audit migrate page replay try copy reseed help) word h ≡ []
+    → IfSome (met_by asm check fight create submit show serve session audit migrate page replay try copy reseed help) IsCommandName
 unfolding clap_on_literals koth_app
-met_is_command true check fight create submit show serve audit migrate page replay try copy reseed help word h none = inl refl
-met_is_command false true fight create submit show serve audit migrate page replay try copy reseed help word h none = inr (inl refl)
-met_is_command false false true create submit show serve audit migrate page replay try copy reseed help word h none = inr (inr (inl refl))
-met_is_command false false false true submit show serve audit migrate page replay try copy reseed help word h none = inr (inr (inr (inl refl)))
-met_is_command false false false false true show serve audit migrate page replay try copy reseed help word h none = inr (inr (inr (inr (inl refl))))
-met_is_command false false false false false true serve audit migrate page replay try copy reseed help word h none = inr (inr (inr (inr (inr (inl refl)))))
-met_is_command false false false false false false true audit migrate page replay try copy reseed help word h none = inr (inr (inr (inr (inr (inr (inl refl))))))
-met_is_command false false false false false false false true migrate page replay try copy reseed help word h none = inr (inr (inr (inr (inr (inr (inr (inl refl)))))))
-met_is_command false false false false false false false false true page replay try copy reseed help word h none = inr (inr (inr (inr (inr (inr (inr (inr (inl refl))))))))
-met_is_command false false false false false false false false false true replay try copy reseed help word h none = inr (inr (inr (inr (inr (inr (inr (inr (inr (inl refl)))))))))
-met_is_command false false false false false false false false false false true try copy reseed help word h none = inr (inr (inr (inr (inr (inr (inr (inr (inr (inr (inl refl))))))))))
-met_is_command false false false false false false false false false false false true copy reseed help word h none = inr (inr (inr (inr (inr (inr (inr (inr (inr (inr (inr (inl refl)))))))))))
-met_is_command false false false false false false false false false false false false true reseed help word h none = inr (inr (inr (inr (inr (inr (inr (inr (inr (inr (inr (inr (inl refl))))))))))))
-met_is_command false false false false false false false false false false false false false true help word h none = inr (inr (inr (inr (inr (inr (inr (inr (inr (inr (inr (inr (inr refl))))))))))))
-met_is_command false false false false false false false false false false false false false false true word h none = absurd (cc)
-met_is_command false false false false false false false false false false false false false false false word h none = tt
+met_is_command true check fight create submit show serve session audit migrate page replay try copy reseed help word h none = inl refl
+met_is_command false true fight create submit show serve session audit migrate page replay try copy reseed help word h none = inr (inl refl)
+met_is_command false false true create submit show serve session audit migrate page replay try copy reseed help word h none = inr (inr (inl refl))
+met_is_command false false false true submit show serve session audit migrate page replay try copy reseed help word h none = inr (inr (inr (inl refl)))
+met_is_command false false false false true show serve session audit migrate page replay try copy reseed help word h none = inr (inr (inr (inr (inl refl))))
+met_is_command false false false false false true serve session audit migrate page replay try copy reseed help word h none = inr (inr (inr (inr (inr (inl refl)))))
+met_is_command false false false false false false true session audit migrate page replay try copy reseed help word h none = inr (inr (inr (inr (inr (inr (inl refl))))))
+met_is_command false false false false false false false true audit migrate page replay try copy reseed help word h none = inr (inr (inr (inr (inr (inr (inr (inl refl)))))))
+met_is_command false false false false false false false false true migrate page replay try copy reseed help word h none = inr (inr (inr (inr (inr (inr (inr (inr (inl refl))))))))
+met_is_command false false false false false false false false false true page replay try copy reseed help word h none = inr (inr (inr (inr (inr (inr (inr (inr (inr (inl refl)))))))))
+met_is_command false false false false false false false false false false true replay try copy reseed help word h none = inr (inr (inr (inr (inr (inr (inr (inr (inr (inr (inl refl))))))))))
+met_is_command false false false false false false false false false false false true try copy reseed help word h none = inr (inr (inr (inr (inr (inr (inr (inr (inr (inr (inr (inl refl)))))))))))
+met_is_command false false false false false false false false false false false false true copy reseed help word h none = inr (inr (inr (inr (inr (inr (inr (inr (inr (inr (inr (inr (inl refl))))))))))))
+met_is_command false false false false false false false false false false false false false true reseed help word h none = inr (inr (inr (inr (inr (inr (inr (inr (inr (inr (inr (inr (inr (inl refl)))))))))))))
+met_is_command false false false false false false false false false false false false false false true help word h none = inr (inr (inr (inr (inr (inr (inr (inr (inr (inr (inr (inr (inr (inr refl)))))))))))))
+met_is_command false false false false false false false false false false false false false false false true word h none = absurd (cc)
+met_is_command false false false false false false false false false false false false false false false false word h none = tt
 
 each_is_command : OnNames (built koth_app).top (names_of (built koth_app)) IsCommandName
 unfolding clap_on_literals koth_app
-each_is_command idle word h none = met_is_command _ _ _ _ _ _ _ _ _ _ _ _ _ _ _ word h none
+each_is_command idle word h none = met_is_command _ _ _ _ _ _ _ _ _ _ _ _ _ _ _ _ word h none
 each_is_command (option id) word h none = tt
 each_is_command positional word h none = tt
 
@@ -88,13 +89,14 @@ enters_command (Some p) (inr (inr (inr (inl is)))) has = named_at p (codes "crea
 enters_command (Some p) (inr (inr (inr (inr (inl is))))) has = named_at p (codes "submit") is (inr (inr (inr (inr (inl refl)))))
 enters_command (Some p) (inr (inr (inr (inr (inr (inl is)))))) has = named_at p (codes "show") is (inr (inr (inr (inr (inr (inl refl))))))
 enters_command (Some p) (inr (inr (inr (inr (inr (inr (inl is))))))) has = named_at p (codes "serve") is (inr (inr (inr (inr (inr (inr (inl refl)))))))
-enters_command (Some p) (inr (inr (inr (inr (inr (inr (inr (inl is)))))))) has = named_at p (codes "audit") is (inr (inr (inr (inr (inr (inr (inr (inl refl))))))))
-enters_command (Some p) (inr (inr (inr (inr (inr (inr (inr (inr (inl is))))))))) has = named_at p (codes "migrate") is (inr (inr (inr (inr (inr (inr (inr (inr (inl refl)))))))))
-enters_command (Some p) (inr (inr (inr (inr (inr (inr (inr (inr (inr (inl is)))))))))) has = named_at p (codes "page") is (inr (inr (inr (inr (inr (inr (inr (inr (inr (inl refl))))))))))
-enters_command (Some p) (inr (inr (inr (inr (inr (inr (inr (inr (inr (inr (inl is))))))))))) has = named_at p (codes "replay") is (inr (inr (inr (inr (inr (inr (inr (inr (inr (inr (inl refl)))))))))))
-enters_command (Some p) (inr (inr (inr (inr (inr (inr (inr (inr (inr (inr (inr (inl is)))))))))))) has = named_at p (codes "try") is (inr (inr (inr (inr (inr (inr (inr (inr (inr (inr (inr (inl refl))))))))))))
-enters_command (Some p) (inr (inr (inr (inr (inr (inr (inr (inr (inr (inr (inr (inr (inl is))))))))))))) has = named_at p (codes "copy") is (inr (inr (inr (inr (inr (inr (inr (inr (inr (inr (inr (inr (inl refl)))))))))))))
-enters_command (Some p) (inr (inr (inr (inr (inr (inr (inr (inr (inr (inr (inr (inr (inr is))))))))))))) has = named_at p (codes "reseed") is (inr (inr (inr (inr (inr (inr (inr (inr (inr (inr (inr (inr (inr refl)))))))))))))
+enters_command (Some p) (inr (inr (inr (inr (inr (inr (inr (inl is)))))))) has = named_at p (codes "session") is (inr (inr (inr (inr (inr (inr (inr (inl refl))))))))
+enters_command (Some p) (inr (inr (inr (inr (inr (inr (inr (inr (inl is))))))))) has = named_at p (codes "audit") is (inr (inr (inr (inr (inr (inr (inr (inr (inl refl)))))))))
+enters_command (Some p) (inr (inr (inr (inr (inr (inr (inr (inr (inr (inl is)))))))))) has = named_at p (codes "migrate") is (inr (inr (inr (inr (inr (inr (inr (inr (inr (inl refl))))))))))
+enters_command (Some p) (inr (inr (inr (inr (inr (inr (inr (inr (inr (inr (inl is))))))))))) has = named_at p (codes "page") is (inr (inr (inr (inr (inr (inr (inr (inr (inr (inr (inl refl)))))))))))
+enters_command (Some p) (inr (inr (inr (inr (inr (inr (inr (inr (inr (inr (inr (inl is)))))))))))) has = named_at p (codes "replay") is (inr (inr (inr (inr (inr (inr (inr (inr (inr (inr (inr (inl refl))))))))))))
+enters_command (Some p) (inr (inr (inr (inr (inr (inr (inr (inr (inr (inr (inr (inr (inl is))))))))))))) has = named_at p (codes "try") is (inr (inr (inr (inr (inr (inr (inr (inr (inr (inr (inr (inr (inl refl)))))))))))))
+enters_command (Some p) (inr (inr (inr (inr (inr (inr (inr (inr (inr (inr (inr (inr (inr (inl is)))))))))))))) has = named_at p (codes "copy") is (inr (inr (inr (inr (inr (inr (inr (inr (inr (inr (inr (inr (inr (inl refl))))))))))))))
+enters_command (Some p) (inr (inr (inr (inr (inr (inr (inr (inr (inr (inr (inr (inr (inr (inr is)))))))))))))) has = named_at p (codes "reseed") is (inr (inr (inr (inr (inr (inr (inr (inr (inr (inr (inr (inr (inr (inr refl))))))))))))))
 
 -- words in which clap finds no fault name a command
 names_command : (words : List Text) → fault_of koth_app words ≡ [] → NamesCommand (option_map (λ p. p.0) (subcommand_of koth_app words))

@@ -324,6 +324,15 @@ waits : (number_or 0 (one_of (codes "wait") (given_by (codes "koth" ∷ codes "s
 unfolding clap_on_literals koth_app
 waits = (refl, refl, refl, refl, refl)
 
+-- the seconds for which a session waits, and the steps of its sources: those of a service if none are given
+session_words : (number_or 0 (one_of (codes "wait") (given_by (codes "koth" ∷ codes "session" ∷ codes "a.hill" ∷ codes "--wait=30" ∷ []))) ≡ 30)
+    × (number_or STEPS (one_of (codes "steps") (given_by (codes "koth" ∷ codes "session" ∷ codes "a.hill" ∷ codes "--steps=9" ∷ []))) ≡ 9)
+    × (number_or STEPS (one_of (codes "steps") (given_by (codes "koth" ∷ codes "session" ∷ codes "a.hill" ∷ []))) ≡ 25000)
+    × (takes koth_app (codes "koth" ∷ codes "session" ∷ []) ≡ false)
+    × (takes koth_app (codes "koth" ∷ codes "session" ∷ codes "a.hill" ∷ codes "--port=0" ∷ []) ≡ false)
+unfolding clap_on_literals koth_app
+session_words = (refl, refl, refl, refl, refl)
+
 -- no peers, peers past the greatest, in all or of one address, a port past the greatest, no rounds or rounds past the greatest, and a round of a command that shows none are not taken
 ranges : (takes koth_app (codes "koth" ∷ codes "serve" ∷ codes "a.hill" ∷ codes "--port=0" ∷ codes "--peers=0" ∷ []) ≡ false)
     × (takes koth_app (codes "koth" ∷ codes "serve" ∷ codes "a.hill" ∷ codes "--port=0" ∷ codes "--peers=1025" ∷ []) ≡ false)

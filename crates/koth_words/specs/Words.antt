@@ -5,7 +5,7 @@ use Rattle.clap.specs.{Words.{IsAmong, Row, Text, all_of, fault_of, first_of, on
 use Rattle.war_types.specs.declared.settings.RawSettings.{RawSettings}
 use Rattle.koth_words.specs.{Options.{number_below, number_given, number_or}, Settings.{IsGiven, settings_in}, Sources.{inputs_in, is_input, place, place_named, places_named, words_in}, declared.settings.Given.Given}
 use Rattle.koth_words.specs.{declared.serving.TheConstants.STEPS, declared.requests.Checked.Checked, declared.requests.Fighters.Fighters, declared.requests.Form.Form, declared.requests.NoRequest.NoRequest, declared.requests.Request.Request}
-use Rattle.koth_words.specs.{declared.requests.Request.TheVariants.{Asm, Check, Fight, Create, Submit, Show, Serve, Audit, Migrate, Page, Replay, Try, Copy, Reseed}, declared.requests.Round.Round, declared.requests.View.View}
+use Rattle.koth_words.specs.{declared.requests.Request.TheVariants.{Asm, Check, Fight, Create, Submit, Show, Serve, Session, Audit, Migrate, Page, Replay, Try, Copy, Reseed}, declared.requests.Round.Round, declared.requests.View.View}
 unfoldable pub use Rattle.koth_options.specs.Commands.{koth_app}
 
 -- what a command is given, if one is entered
@@ -263,6 +263,10 @@ Asks entered (Serve settings service) = (entered.0 ≡ codes "serve") × (settin
     × (service.replays ≡ has_flag (codes "replays") entered.1)
     × (service.quiet ≡ has_flag (codes "quiet") entered.1)
     × (service.create ≡ has_flag (codes "create") entered.1)
+Asks entered (Session session) = (entered.0 ≡ codes "session")
+    × (session.hill.now ≡ text_or_none (first_of (codes "FILE") entered.1))
+    × (session.wait ≡ number_or 0 (one_of (codes "wait") entered.1))
+    × (session.steps ≡ number_or STEPS (one_of (codes "steps") entered.1))
 Asks entered (Audit audited) = (entered.0 ≡ codes "audit")
     × (audited.hill.now ≡ text_or_none (first_of (codes "FILE") entered.1))
     × (audited.view ≡ view_in entered.1)
@@ -303,6 +307,7 @@ given_of (Create given creation) = Some given
 given_of (Submit files) = None
 given_of (Show shown) = None
 given_of (Serve settings service) = None
+given_of (Session session) = None
 given_of (Audit audited) = None
 given_of (Migrate files) = None
 given_of (Page file) = None
@@ -315,7 +320,7 @@ given_of (Reseed files) = None
 abbrev pub IsCommandName : Text → Type 0
 IsCommandName name = (name ≡ codes "asm") ⊎ (name ≡ codes "check") ⊎ (name ≡ codes "fight")
     ⊎ (name ≡ codes "create") ⊎ (name ≡ codes "submit") ⊎ (name ≡ codes "show")
-    ⊎ (name ≡ codes "serve") ⊎ (name ≡ codes "audit") ⊎ (name ≡ codes "migrate") ⊎ (name ≡ codes "page")
+    ⊎ (name ≡ codes "serve") ⊎ (name ≡ codes "session") ⊎ (name ≡ codes "audit") ⊎ (name ≡ codes "migrate") ⊎ (name ≡ codes "page")
     ⊎ (name ≡ codes "replay") ⊎ (name ≡ codes "try") ⊎ (name ≡ codes "copy") ⊎ (name ≡ codes "reseed")
 
 -- a command is named

@@ -4,7 +4,7 @@
 //!
 //! - `options`: the numbers that options have; `settings`: the settings that they give;
 //! - `requests`: what command lines ask for;
-//! - `given`: what the arguments that `clap` took give a command, `sources` its sources, and `serving` what they give a service;
+//! - `given`: what the arguments that `clap` took give a command, `sources` its sources, and `serving` what they give a service or one session;
 //! - `clear`: what is refused beside `clap`; `habits`: options of pMARS that are typed by habit;
 //! - `words`: how arguments become a request.
 #![tactic(auto)]
@@ -22,7 +22,7 @@ mod words;
 pub use options::DEFAULTS;
 pub use requests::{
     Audited, Checked, Copied, Creation, Fighters, Form, Migration, NoRequest, Request, Reseeded,
-    Round, Service, Shown, Source, Submission, View, Watched,
+    Round, Service, Session, Shown, Source, Submission, View, Watched,
 };
 pub use serving::STEPS;
 pub use settings::{Chosen, Given, given_as};

@@ -24,6 +24,8 @@ pub enum Request<'w> {
     Show(Shown<'w>),
     /// `serve`: serve sessions on a hill, which is created with these settings if that is asked for and there is none.
     Serve(RawSettings, Service<'w>),
+    /// `session`: serve one session on a hill over standard input and output.
+    Session(Session<'w>),
     /// `audit`: play the match of every pair on a hill again, and write whether each kept result is right.
     Audit(Audited<'w>),
     /// `migrate`: move a hill of the old format to a new file.
@@ -54,6 +56,7 @@ impl<'w> Request<'w> {
             Request::Submit(_)
             | Request::Show(_)
             | Request::Serve(..)
+            | Request::Session(_)
             | Request::Audit(_)
             | Request::Migrate(_)
             | Request::Page(_)
@@ -190,6 +193,16 @@ pub struct Service<'w> {
     pub quiet: bool,
     /// Whether the hill is created first if there is no file.
     pub create: bool,
+}
+
+/// The file of a hill, and how one session on it is served.
+#[derive(Clone, Copy)]
+pub struct Session<'w> {
+    pub hill: &'w str,
+    /// Seconds for which the hill's lock is tried again if another program has it, at most 3,600; 0 if that isn't asked for.
+    pub wait: u32,
+    /// How many steps the assembly of a source may take.
+    pub steps: u32,
 }
 
 /// The file of a hill of the old format, and the file that it moves to.

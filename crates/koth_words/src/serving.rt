@@ -1,4 +1,4 @@
-//! What the arguments that `clap` took give a service.
+//! What the arguments that `clap` took give a service, or one session.
 
 ghost use Rattle.std.specs.{Prelude.{◌≡◌, ◌↔◌, [], Some, codes, map, unwrap_or, IfOk, IsTrue}, Net.Addr.ipv4_octets};
 ghost use Rattle.{clap.specs.Words.{all_of, first_of, found_of, one_of, rows_of}, koth_words.specs.Options.{number_below, number_given, number_or}};
@@ -6,7 +6,7 @@ ghost use Rattle.koth_words.specs.Words.{has_flag, text_or_none, AreOfMany, HasA
 
 use crate::given::{file_named, flag_given, text_given, texts_given};
 use crate::options::{number_given, number_if_given};
-use crate::requests::Service;
+use crate::requests::{Service, Session};
 use clap::ArgMatches;
 use koth_options::default_steps;
 use std::alloc::{AllocError, Global};
@@ -61,6 +61,18 @@ pub(crate) fn service_named<'w>(
         quiet: flag_given(matches, "quiet"),
         create: flag_given(matches, "create"),
     })
+}
+
+pub(crate) fn session_named<'w>(matches: &ArgMatches<'w>) -> Session<'w>
+    ensures hill { result.hill.now ≡ text_or_none (first_of (codes "FILE") (rows_of (found_of matches.now))) }
+    ensures wait { result.wait ≡ number_or 0 (one_of (codes "wait") (rows_of (found_of matches.now))) }
+    ensures steps { result.steps ≡ number_or STEPS (one_of (codes "steps") (rows_of (found_of matches.now))) }
+{
+    Session {
+        hill: file_named(matches, "FILE"),
+        wait: number_given(matches, "wait", 0),
+        steps: number_given(matches, "steps", STEPS),
+    }
 }
 
 /// The address to listen at.

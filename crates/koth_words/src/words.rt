@@ -11,7 +11,7 @@ use crate::given::{
 };
 use crate::habits::{begin_with_source, fight_of, habit_among};
 use crate::requests::{NoRequest, Request, View};
-use crate::serving::service_named;
+use crate::serving::{service_named, session_named};
 use crate::settings::{given_named, settings_given};
 use crate::sources::source_named;
 use clap::error::ErrorKind;
@@ -88,6 +88,7 @@ fn asked<'w>(heap: Global, name: &str, given: &ArgMatches<'w>) -> Result<Request
             Ok(service) => Ok(Request::Serve(settings_given(given), service)),
             Err(error) => Err(error),
         },
+        "session" => Ok(Request::Session(session_named(given))),
         "audit" => Ok(Request::Audit(audited_named(given))),
         "migrate" => Ok(Request::Migrate(migration_named(given))),
         "page" => Ok(Request::Page(file_named(given, "FILE"))),

@@ -31,6 +31,11 @@ returns-in-Serve g c =
     let after = streams (g.I.Read.remaining c.args.input.now) (g.O.Write.contents c.serve.new.output) (g.E.Write.contents c.serve.new.errors) in
     request_ends c.args.settings c.args.view _ _ _ _ after c.in-Serve.is (_, c.tell_lost_header.ensures, c.serve.ensures.ends) c.serve.ensures.words
 
+pub returns-in-Session : goal.returns-in-Session
+returns-in-Session g c =
+    let after = streams (g.I.Read.remaining c.session.new.input) (g.O.Write.contents c.session.new.output) (g.E.Write.contents c.session.new.errors) in
+    request_ends c.args.settings c.args.view _ _ _ _ after c.in-Session.is (_, c.tell_lost_header-in-Session.ensures, c.session.ensures.ends) c.session.ensures.words
+
 pub returns-in-Replay : goal.returns-in-Replay
 returns-in-Replay g c =
     let after = streams (g.I.Read.remaining c.replay.new.input) (g.O.Write.contents c.replay.new.output) (g.E.Write.contents c.replay.new.errors) in
