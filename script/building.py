@@ -24,7 +24,7 @@ SECONDS = {
     "redcode_expand": 351, "redcode_warnings": 121, "redcode_asm": 139, "redcode_scene": 142, "redcode_blame": 241, "redcode_diagnosis": 145,
     "mars_words": 30, "mars_operations": 77, "mars_core": 377, "koth_match": 29, "koth_replay": 72, "koth_hill": 123, "sector_disk": 84,
     "hill_bytes": 76, "hill_file": 171, "hill_images": 154, "hill_store": 132, "hill_look": 90, "koth_protocol": 122, "koth_session": 268,
-    "koth_http": 57, "koth_service": 341, "koth_sockets": 141, "koth_text": 93, "koth_options": 97, "koth_words": 156, "koth_json": 144,
+    "koth_http": 57, "koth_seats": 40, "koth_service": 320, "koth_sockets": 141, "koth_text": 93, "koth_options": 97, "koth_words": 156, "koth_json": 144,
     "koth_views": 161, "koth_page": 122, "koth_watch": 94, "koth_commands": 218, "koth_contests": 290, "koth_files": 168, "koth_keeping": 145,
     "koth_hills": 165, "koth_server": 273, "koth": 105,
 }

@@ -14,8 +14,8 @@ past xs i none = elim ((slice_get_cases xs i).1) [
   | inr beyond ↦ beyond.0
 ]
 
-module _ (k : Kept) (w : WarriorParts) (old new : Challenge) where
-  went_on : (m : Member) → IsUnderWay k w old → slice_get k.members (length old.bouts) ≡ Some m → GoesOnWith k.settings m.warrior w old new → IsUnderWay k w new
+module _ (turns : ℕ) (k : Kept) (w : WarriorParts) (old new : Challenge) where
+  went_on : (m : Member) → IsUnderWay k w old → slice_get k.members (length old.bouts) ≡ Some m → GoesOnWith turns k.settings m.warrior w old new → IsUnderWay k w new
   went_on m is at goes = record {
     few = subst (λ (bs : List Bout). length bs ≤ length k.members) (sym goes.step.bouts) is.few;
     fought = goes.step.bouts ∙ is.fought ∙ ap (λ (bs : List Bout). matches_with k.settings (take (length bs) k.members) w) (sym goes.step.bouts);
@@ -28,7 +28,7 @@ module _ (k : Kept) (w : WarriorParts) (old new : Challenge) where
   each_next None next = tt
   each_next (Some m) next = next m.warrior
 
-  ended : (m : Member) → 1 ≤ k.settings.rounds → IsUnderWay k w old → slice_get k.members (length old.bouts) ≡ Some m → EndsMatchWith k.settings m.warrior w old new → IsUnderWay k w new
+  ended : (m : Member) → 1 ≤ k.settings.rounds → IsUnderWay k w old → slice_get k.members (length old.bouts) ≡ Some m → EndsMatchWith turns k.settings m.warrior w old new → IsUnderWay k w new
   ended m some is at ends = record {
     few = omega (arith, ends.step.bouts, slice_get_within k.members (length old.bouts) m at);
     fought = ends.fought ∙ ap (λ (bs : List Bout). bs ++ match_of k.settings m.warrior w ∷ []) is.fought
@@ -42,17 +42,17 @@ module _ (k : Kept) (w : WarriorParts) (old new : Challenge) where
   }
 
   stepped : (m : Member) → 1 ≤ k.settings.rounds → IsUnderWay k w old → slice_get k.members (length old.bouts) ≡ Some m
-      → GoesOnWith k.settings m.warrior w old new ⊎ EndsMatchWith k.settings m.warrior w old new → IsUnderWay k w new
+      → GoesOnWith turns k.settings m.warrior w old new ⊎ EndsMatchWith turns k.settings m.warrior w old new → IsUnderWay k w new
   stepped m some is at (inl goes) = went_on m is at goes
   stepped m some is at (inr ends) = ended m some is at ends
 
   -- a step leaves a challenge of the same warrior to the same hill
   pub under_way_still : (m : Member) (older : WarriorParts) (s : RawSettings) (bs : List Bout) → IsKept k → s ≡ k.settings → older ≡ m.warrior → bs ≡ old.bouts → Some m ≡ slice_get k.members (length bs)
-      → IsUnderWay k w old → GoesOnWith s older w old new ⊎ EndsMatchWith s older w old new → IsUnderWay k w new
+      → IsUnderWay k w old → GoesOnWith turns s older w old new ⊎ EndsMatchWith turns s older w old new → IsUnderWay k w new
   under_way_still m older s bs kept settings warrior bouts here is fought =
       stepped m kept.hill.settings.rounds_least is (ap (λ (x : List Bout). slice_get k.members (length x)) (sym bouts) ∙ sym here)
-      (subst (λ (x : WarriorParts). GoesOnWith k.settings x w old new ⊎ EndsMatchWith k.settings x w old new) warrior
-      (subst (λ (x : RawSettings). GoesOnWith x older w old new ⊎ EndsMatchWith x older w old new) settings fought))
+      (subst (λ (x : WarriorParts). GoesOnWith turns k.settings x w old new ⊎ EndsMatchWith turns k.settings x w old new) warrior
+      (subst (λ (x : RawSettings). GoesOnWith turns x older w old new ⊎ EndsMatchWith turns x older w old new) settings fought))
 
 -- a member is left to fight
 pub one_left : (k : Kept) (m : Member) (bouts bs : List Bout) → bs ≡ bouts → Some m ≡ slice_get k.members (length bs) → length bouts < length k.members

@@ -29,7 +29,7 @@ mod table;
 mod untrue;
 mod verdict;
 
-pub use challenge::Challenge;
+pub use challenge::{Challenge, MOST_TURNS};
 pub use hill::Hill;
 pub use member::Member;
 pub use row::Row;

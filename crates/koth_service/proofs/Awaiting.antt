@@ -1,8 +1,9 @@
 -- Nobody is silent for too long.
 use Rattle.std.proofs.Common.{◌≡◌, ◌≢◌, inl, inr, ℕ, ◌+◌, ◌<◌, arith, length, Option, None, Some, refl, sym, subst}
 use Rattle.{std.proofs.lemmas.{Bool.{cases_eq, cases_lt}, List.get_or_past}, koth_session.specs.{Peers.peer_at, declared.peer.Peer.Peer}}
-use Rattle.koth_service.specs.{Seats.seat_at, Standing.{AreAwaited, AwaitedIn, IsAwaited, OthersStay}}
-use Rattle.koth_service.specs.declared.{desk.Desk.Desk, seats.Seat.Seat}
+use Rattle.koth_seats.specs.{Seats.seat_at, declared.seats.Seat.Seat}
+use Rattle.koth_service.specs.Standing.{AreAwaited, AwaitedIn, IsAwaited, OthersStay}
+use Rattle.koth_service.specs.declared.desk.Desk.{Desk}
 use Rattle.koth_service.proofs.Moments.{only_seats, only_slots}
 
 -- a number without a seat

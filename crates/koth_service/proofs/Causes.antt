@@ -4,8 +4,9 @@ use Rattle.std.proofs.Common.{append-nil}
 use Rattle.koth_protocol.specs.{Commands.{Command, Reader, commands_read}, Reading.commands_met, declared.script.Met.Met}
 use Rattle.koth_session.specs.{Inbox.{IsReadTo, is_request}, Peer.{HasRead, is_due_now}, Peers.{asks_in, end_in, is_due_in, is_finished_in}}
 use Rattle.koth_session.{specs.declared.{end.PeerEnd.PeerEnd, inbox.Inbox.Inbox, peer.Peer.Peer}, proofs.Standing.those_came}
-use Rattle.koth_service.specs.{Seats.{IsPatienceOver, IsUnused, has_some}, Session.Session, Moment.Moment, History.{AsksForPage, Begins, IsCause, IsSilent, MayBeDisplaced, MayDisconnect}}
-use Rattle.koth_service.{specs.{Standing.{AwaitedIn, Stands, StandsAt, over_by}, declared.{host.HowEnded.HowEnded, seats.Seat.Seat, times.TheConstants.{UNSPOKEN, UNUSED}}}, proofs.Moments.is_some_byte}
+use Rattle.koth_seats.specs.{Seats.{IsPatienceOver, IsUnused, has_some}, declared.{seats.Seat.Seat, times.TheConstants.{UNSPOKEN, UNUSED}}}
+use Rattle.koth_service.specs.{Session.Session, Moment.Moment, History.{AsksForPage, Begins, IsCause, IsSilent, MayBeDisplaced, MayDisconnect}}
+use Rattle.koth_service.{specs.{Standing.{AwaitedIn, Stands, StandsAt, over_by}, declared.host.HowEnded.HowEnded}, proofs.Moments.is_some_byte}
 use Rattle.koth_service.proofs.Due.{both, due_is_something, empty_of, false_of, finished, goes_on_by, has_all, idle, not_finished}
 
 -- ---- truth values and lists

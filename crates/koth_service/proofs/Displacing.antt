@@ -1,10 +1,10 @@
 -- The slot of a browser that is given to another.
 use Rattle.std.proofs.Common.{◌≡◌, ◌∙◌, inl, inr, ℕ, ◌+◌, ◌<◌, ◌≤◌, arith, length, true, true≢false, false, List, [], ◌∷◌, Option, None, Some, IsSome, is_some, ap, refl, sym, subst}
 use Rattle.{std.proofs.lemmas.{Bool.cases_lt, List.get_or_past}, koth_http.specs.Asked.IsAsked, sector_disk.specs.Facts.DeviceFacts, hill_store.specs.Seen.Seen}
-use Rattle.koth_service.specs.{Noted.{Adds, Noted}, Seats.{IsUnused, has_some}, Session.{Browser, browser_anew}, Moment.{Happening, Start, instead, moment, noted}, History.{LosesSlot, Shows}}
+use Rattle.koth_seats.specs.{Seats.{IsUnused, has_some}, declared.times.TheConstants.{UNASKED, UNHEARD}}
+use Rattle.koth_service.specs.{Noted.{Adds, Noted}, Session.{Browser, browser_anew}, Moment.{Happening, Start, instead, moment, noted}, History.{LosesSlot, Shows}}
 use Rattle.koth_service.specs.{Places.{IsLongest, IsLongestUpTo}, Standing.{AreAtStages, GoesOn, IsAtStage, PeersNow}}
 use Rattle.koth_service.specs.{Connections.{AreAllTaken, ComesTo, Connections, IsFree, LosesSlotAt, LosesSlotSince, MayGiveSlot, longer_if, stage_at, stage_in}, declared.connections.{Stage.Stage}}
-use Rattle.koth_service.specs.declared.times.TheConstants.{UNASKED, UNHEARD}
 use Rattle.koth_service.proofs.{Causes.none_came, Longest.{is_longest, longer_longest, stays_longest}, Moments.instead_same, Stages.{came_to_be, instead_kept, safe_on, stages_with, there_at_some}}
 
 -- ---- the search among connections

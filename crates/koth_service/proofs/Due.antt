@@ -4,7 +4,8 @@ use Rattle.std.proofs.{Common.{is_some, refl, sym, ap, subst, ◌∙◌, append-
 use Rattle.koth_protocol.specs.Commands.{Command, Reader, commands_read, kept_source}
 use Rattle.koth_session.specs.{Inbox.{IsReadTo, is_met}, Peer.{HasRead, command_due, is_due, is_due_now, settled}, Peers.{end_in, is_finished_in}}
 use Rattle.koth_session.{specs.declared.{end.PeerEnd.PeerEnd, inbox.Inbox.Inbox, peer.Peer.Peer}, proofs.Standing.{behind_met, settles, those_came}}
-use Rattle.koth_service.{specs.{Session.Session, History.{HasAll, HasEnded, HasNothingDue}, Standing.{Stands, StandsAt, over_by}, declared.seats.Seat.Seat}, proofs.Moments.is_some_byte}
+use Rattle.koth_seats.specs.declared.seats.Seat.{Seat}
+use Rattle.koth_service.{specs.{Session.Session, History.{HasAll, HasEnded, HasNothingDue}, Standing.{Stands, StandsAt, over_by}}, proofs.Moments.is_some_byte}
 
 -- ---- truth values and lists
 

@@ -1,8 +1,8 @@
 -- What has happened by the end of a service.
 use Rattle.std.proofs.Common.{ℕ, ◌≤◌, arith, List, [], Option, None, Some, Result, Ok, Err, IfOk}
-use Rattle.{sector_disk.specs.Facts.DeviceFacts, hill_store.specs.Seen.Seen, koth_session.specs.declared.peers.Step.Step}
-use Rattle.koth_service.specs.{Noted.Noted, Moment.{Happening, Start, ended_in, noted}, History.Shows}
-use Rattle.koth_service.specs.{Services.{HaveEnded, IsServed}, Standing.{CameToBe, GoesOn, PeersNow, StandsAfter}}
+use Rattle.{war_types.specs.declared.settings.RawSettings.RawSettings, sector_disk.specs.Facts.DeviceFacts, hill_store.specs.{Holding.IsHolding, Seen.Seen}, koth_session.specs.declared.peers.Step.Step}
+use Rattle.koth_service.specs.{Noted.Noted, Moment.{Happening, Start, ended_in, noted}, History.{IsHistory, Shows}, Held.AreHeld}
+use Rattle.koth_service.specs.{Services.{EndsAsAsked, HaveEnded, IsServed}, Standing.{CameToBe, GoesOn, PeersNow, StandsAfter}}
 use Rattle.{koth_service.specs.declared.connections.Stage.Stage, koth_service.proofs.Holdings.are_held}
 
 -- as many have ended if more have
@@ -50,3 +50,17 @@ pub at_once : {S D T F : Type 0} (happened : S → List Noted → Type 0) (facts
     → happened sockets [] → (history : List (Happening D)) × IsServed {T = T} {F = F} happened facts shows start connections (Err fault) sockets history
 at_once happened facts shows start connections fault sockets none =
     ([], record { logged = none; follows = tt; held = λ s before holding. are_held facts s shows start before [] holding tt; done = tt })
+
+-- ---- what is so of the history that has all
+
+module _ {S D T F : Type 0} {happened : S → List Noted → Type 0} {facts : DeviceFacts D} {shows : Shows D} {start : Start D} {connections : Option ℕ} {result : Result T F} {sockets : S}
+    (serves : (history : List (Happening D)) × IsServed happened facts shows start connections result sockets history) where
+  pub durable_of : (history : List (Happening D)) × happened sockets (noted history)
+      × ((s : RawSettings) (before : List (List ℕ)) → IsHolding facts s before start.store → AreHeld facts s before start history)
+  durable_of = (serves.0, serves.1.logged, serves.1.held)
+
+  pub history_of : (history : List (Happening D)) × happened sockets (noted history) × IsHistory facts shows start history
+  history_of = (serves.0, serves.1.logged, serves.1.follows)
+
+  pub end_of : (history : List (Happening D)) × happened sockets (noted history) × EndsAsAsked connections result history
+  end_of = (serves.0, serves.1.logged, serves.1.done)

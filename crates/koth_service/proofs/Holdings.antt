@@ -3,7 +3,7 @@ use Rattle.std.proofs.Common.{◌≡◌, ℕ, true≢false, false, List, [], ◌
 use Rattle.{war_types.specs.declared.settings.RawSettings.RawSettings, sector_disk.specs.Facts.DeviceFacts, hill_store.specs.{Holding.{AreDecided, Holds, IsCutOff, IsHeldWith, IsHolding}, Seen.Seen}}
 use Rattle.{hill_store.proofs.Decided.decided, koth_session.specs.{Sessions.{AreServed, IsLeftOff}, Transcript.{Exchange, submitted}}}
 use Rattle.koth_session.proofs.{Exchanges.served_none, Holding.{keeps_cut, keeps_list}}
-use Rattle.koth_service.specs.{Noted.Noted, Moment.{Happening, Moment, Start, moment, next}, History.{Follows, IsHistory, Reopens, Shows}, Held.{AreHeld, Counts, IsHeld}}
+use Rattle.koth_service.specs.{Noted.Noted, Moment.{Happening, Moment, Start, moment, next}, History.{Follows, IsHistory, Reopens, Shows}, Held.{AreHeld, Counts, IsHeld, store_at}}
 
 -- what happens on the sockets leaves the store as it is
 pub same_store : {D : Type 0} (what : Noted) (m : Moment D) → (next (Happening.On what) m).now ≡ m.now
@@ -27,7 +27,26 @@ same_store (Noted.Requested n bytes) m = refl
 same_store (Noted.Shown n bytes) m = refl
 same_store (Noted.Left n) m = refl
 
+-- the store after a history is that of its moment
+pub store_is : {D : Type 0} (start : Start D) (history : List (Happening D)) → store_at start.store history ≡ (moment start history).now
+store_is start [] = refl
+store_is start (Happening.On what ∷ older) = store_is start older ∙ sym (same_store what (moment start older))
+store_is start (Happening.Answered n e new ∷ older) = refl
+store_is start (Happening.Stopped n end ∷ older) = store_is start older
+store_is start (Happening.Stepped n source submission ∷ older) = store_is start older
+store_is start (Happening.PutOff n source ∷ older) = store_is start older
+store_is start (Happening.CutOff n source new ∷ older) = refl
+store_is start (Happening.Reopened new ∷ older) = refl
+store_is start (Happening.Disconnected n how ∷ older) = store_is start older
+store_is start (Happening.Replied n reply ∷ older) = store_is start older
+store_is start (Happening.Displaced n ∷ older) = store_is start older
+
 module _ {D : Type 0} (facts : DeviceFacts D) (s : RawSettings) where
+  pub holds_now : (start : Start D) (before : List (List ℕ)) (history : List (Happening D)) (held : IsHeld facts s before start history)
+      → IsHeldWith facts s held.found held.more (moment start history).now
+  holds_now start before history held =
+      subst (λ (store : Seen D). IsHeldWith facts s held.found held.more store) (store_is start history) held.holds
+
   -- ---- what each happening makes of what the store holds
 
   pub open_holds : (found : List (List ℕ)) (more : Option (List ℕ)) (store : Seen D) → store.reopen ≡ false → IsHeldWith facts s found more store
@@ -63,15 +82,10 @@ module _ {D : Type 0} (facts : DeviceFacts D) (s : RawSettings) where
   module _ (shows : Shows D) (start : Start D) (before : List (List ℕ)) where
     held_next : (what : Happening D) (older : List (Happening D)) → Follows facts shows start what (moment start older) → IsHeld facts s before start older
         → IsHeld facts s before start (what ∷ older)
-    held_next (Happening.On what) older follows held = record {
-      found = held.found;
-      more = held.more;
-      counts = held.counts;
-      holds = subst (λ (store : Seen D). IsHeldWith facts s held.found held.more store) (sym (same_store what (moment start older))) held.holds;
-    }
+    held_next (Happening.On what) older follows held = record { found = held.found; more = held.more; counts = held.counts; holds = held.holds }
     held_next (Happening.Answered n e new) older follows held =
         let m : Moment D = moment start older in
-        let is = open_holds held.found held.more m.now (sym follows.served.still ∙ follows.safe.open_now) held.holds in record {
+        let is = open_holds held.found held.more m.now (sym follows.served.still ∙ follows.safe.open_now) (holds_now start before older held) in record {
           found = held.found ++ submitted (e ∷ []);
           more = None;
           counts = (held.found, subst (λ (more : Option (List ℕ)). Counts before older held.found more) is.0 held.counts, refl, refl);
@@ -79,18 +93,18 @@ module _ {D : Type 0} (facts : DeviceFacts D) (s : RawSettings) where
         }
     held_next (Happening.CutOff n source new) older follows held =
         let m : Moment D = moment start older in
-        let is = open_holds held.found held.more m.now follows.safe.open_now held.holds in record {
+        let is = open_holds held.found held.more m.now follows.safe.open_now (holds_now start before older held) in record {
           found = held.found;
           more = Some source;
           counts = (subst (λ (more : Option (List ℕ)). Counts before older held.found more) is.0 held.counts, refl);
           holds = cut_holds held.found m.now new source follows.left_off is.1;
         }
     held_next (Happening.Reopened new) older follows held =
-        let opened = reopened_holds held.found held.more new (moment start older) follows held.holds in
+        let opened = reopened_holds held.found held.more new (moment start older) follows (holds_now start before older held) in
         record { found = opened.0; more = None; counts = (held.found, held.more, held.counts, opened.1, refl); holds = opened.2 }
     held_next (Happening.Stopped n end) older follows held = record { found = held.found; more = held.more; counts = held.counts; holds = held.holds }
     held_next (Happening.PutOff n source) older follows held = record { found = held.found; more = held.more; counts = held.counts; holds = held.holds }
-    held_next (Happening.Stepped n source) older follows held = record { found = held.found; more = held.more; counts = held.counts; holds = held.holds }
+    held_next (Happening.Stepped n source submission) older follows held = record { found = held.found; more = held.more; counts = held.counts; holds = held.holds }
     held_next (Happening.Disconnected n how) older follows held = record { found = held.found; more = held.more; counts = held.counts; holds = held.holds }
     held_next (Happening.Replied n reply) older follows held = record { found = held.found; more = held.more; counts = held.counts; holds = held.holds }
     held_next (Happening.Displaced n) older follows held = record { found = held.found; more = held.more; counts = held.counts; holds = held.holds }

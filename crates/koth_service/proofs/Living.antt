@@ -4,7 +4,7 @@ use Rattle.{war_types.specs.declared.settings.RawSettings.RawSettings, koth_hill
 use Rattle.{hill_images.specs.Stands.{Reads, Stands}, hill_store.specs.{Earned.{earned, kept_next}, Holding.{IsHeldWith, IsHolding}, Lives.{Event, Lives, MovesOn}, Seen.{IsStanding, Seen}}}
 use Rattle.{hill_store.proofs.Eventful.{calls, may_move_on, next_by}, koth_session.specs.{Lives.answers_to, Transcript.submitted}, koth_session.proofs.Living.moves_by}
 use Rattle.koth_service.specs.{Moment.{Happening, Start, moment}, History.{IsHistory, Shows}, Held.{AreEvents, IsHeld, ServicesAreLives}}
-use Rattle.koth_service.proofs.Holdings.{are_held, latest, open_holds, reopened_holds, same_store}
+use Rattle.koth_service.proofs.Holdings.{are_held, holds_now, latest, open_holds, reopened_holds, same_store, store_is}
 
 -- whether a store takes submissions, by whether it has to be opened again
 abbrev takes : Bool → Bool
@@ -67,7 +67,7 @@ module _ {D : Type 0} (facts : DeviceFacts D) (s : RawSettings) where
     lived (Happening.Stopped n end ∷ older) holding is =
         let rest = lived older holding is.1 in
         record { events = rest.events; are = rest.are; goes = rest.goes; sized = rest.sized }
-    lived (Happening.Stepped n source ∷ older) holding is =
+    lived (Happening.Stepped n source submission ∷ older) holding is =
         let rest = lived older holding is.1 in
         record { events = rest.events; are = rest.are; goes = rest.goes; sized = rest.sized }
     lived (Happening.PutOff n source ∷ older) holding is =
@@ -82,7 +82,7 @@ module _ {D : Type 0} (facts : DeviceFacts D) (s : RawSettings) where
         let served = is.0.served in
         let sound : old.reopen ≡ false = sym served.still ∙ is.0.safe.open_now in
         let held : IsHeld facts s before start older = latest facts s shows start before older (are_held facts s shows start before older holding is.1) in
-        let now = open_holds facts s held.found held.more old sound held.holds in
+        let now = open_holds facts s held.found held.more old sound (holds_now facts s start before older held) in
         let moves : MovesOn (facts.size start.store.device) (submitted (e ∷ [])) (facts.disk old.device) (facts.disk new.device) =
         subst (λ (size : ℕ). MovesOn size (submitted (e ∷ [])) (facts.disk old.device) (facts.disk new.device)) rest.sized
         (moves_by facts old new (e ∷ []) now.1.lawful (standing held.found old now.1) served) in record {
@@ -98,7 +98,7 @@ module _ {D : Type 0} (facts : DeviceFacts D) (s : RawSettings) where
         let left = is.0.left_off in
         let sound : old.reopen ≡ false = is.0.safe.open_now in
         let held : IsHeld facts s before start older = latest facts s shows start before older (are_held facts s shows start before older holding is.1) in
-        let now = open_holds facts s held.found held.more old sound held.holds in
+        let now = open_holds facts s held.found held.more old sound (holds_now facts s start before older held) in
         let size = facts.size start.store.device in
         let next = kept_next old.hill source in
         let reads : Images (facts.disk old.device) (λ image. Reads size image old.hill) =
@@ -119,9 +119,9 @@ module _ {D : Type 0} (facts : DeviceFacts D) (s : RawSettings) where
         let rest = lived older holding is.1 in
         let old : Seen D = (moment start older).now in
         let held : IsHeld facts s before start older = latest facts s shows start before older (are_held facts s shows start before older holding is.1) in
-        let lawful = lawful_held held.found held.more old held.holds in
+        let lawful = lawful_held held.found held.more old (holds_now facts s start before older held) in
         let again = is.0.again lawful in
-        let found = reopened_holds facts s held.found held.more new (moment start older) is.0 held.holds in
+        let found = reopened_holds facts s held.found held.more new (moment start older) is.0 (holds_now facts s start before older held) in
         let hill = earned s found.0 in
         let laws = calls facts in
         let one = laws.opened old.device new hill lawful again.1 found.2.hill in record {
@@ -136,12 +136,13 @@ module _ {D : Type 0} (facts : DeviceFacts D) (s : RawSettings) where
         }
 
 pub services : {D : Type 0} (facts : DeviceFacts D) (shows : Shows D) → ServicesAreLives facts shows
-services facts shows = record {
+services {D} facts shows = record {
   lived = λ start history s before holding is.
       let life = lived facts s shows start before history holding is in (
         life.events,
         life.are,
-        subst (λ events. Lives (facts.size start.store.device) true (facts.disk start.store.device) events (facts.disk (moment start history).now.device)) (append-nil life.events)
-            (life.goes [] (facts.disk (moment start history).now.device) refl),
+        subst (λ (end : Seen D). Lives (facts.size start.store.device) true (facts.disk start.store.device) life.events (facts.disk end.device)) (sym (store_is start history))
+            (subst (λ events. Lives (facts.size start.store.device) true (facts.disk start.store.device) events (facts.disk (moment start history).now.device)) (append-nil life.events)
+            (life.goes [] (facts.disk (moment start history).now.device) refl)),
       );
 }

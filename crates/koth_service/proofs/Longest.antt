@@ -2,9 +2,10 @@
 use Rattle.std.proofs.Common.{◌≡◌, ◌⊎◌, inl, inr, ℕ, ◌+◌, ◌<◌, ◌≤◌, arith, nat_le, Bool, true, true≢false, false, if◌then◌else◌, length, Option, None, Some, IsSome, is_some, List, refl, sym, ap, subst, ◌∙◌}
 use Rattle.{std.proofs.lemmas.{Bool.{cases_eq, cases_lt, leb-false, leb-true}, List.get_or_past}, sector_disk.specs.Facts.DeviceFacts, hill_store.specs.Seen.Seen}
 use Rattle.koth_session.specs.{Peers.peer_at, declared.peer.Peer.Peer}
-use Rattle.koth_service.specs.{Noted.Noted, Seats.seat_at, Session.Session, Moment.{Start, moment}, History.{IsDisplaced, MayDisconnect, Shows}}
-use Rattle.koth_service.specs.{Places.{AreTaken, IsLongest, IsLongestUpTo, MayLeave, MayLeaveSince, longer}, Standing.{GoesOn, StandsAt, peers_of}}
-use Rattle.koth_service.specs.declared.{connections.Stage.Stage, desk.Desk.Desk, host.HowEnded.HowEnded, seats.Seat.Seat}
+use Rattle.koth_seats.specs.{Seats.{seat_at, longer}, declared.seats.Seat.Seat}
+use Rattle.koth_service.specs.{Noted.Noted, Session.Session, Moment.{Start, moment}, History.{IsDisplaced, MayDisconnect, Shows}}
+use Rattle.koth_service.specs.{Places.{AreTaken, IsLongest, IsLongestUpTo, MayLeave, MayLeaveSince}, Standing.{GoesOn, StandsAt, peers_of}}
+use Rattle.koth_service.specs.declared.{connections.Stage.Stage, desk.Desk.Desk, host.HowEnded.HowEnded}
 use Rattle.koth_service.proofs.Causes.{may_be, may_leave}
 
 -- of the numbers up to this one

@@ -1,8 +1,9 @@
 -- Whether a peer of which nothing is read is gone.
 use Rattle.std.proofs.Common.{◌≢◌, true≢false, ℕ, List, ◌∷◌, Option, None, Some, IsSome, sym}
 use Rattle.{sector_disk.specs.Facts.DeviceFacts, hill_store.specs.Seen.Seen, koth_session.specs.declared.peer.Peer.Peer}
+use Rattle.koth_seats.specs.declared.seats.Seat.{Seat}
 use Rattle.koth_service.specs.{Noted.{Adds, Noted}, Session.Session, Moment.{Happening, Start, noted}, History.Shows, Standing.{GoesOn, PeersNow, StandsAt}}
-use Rattle.koth_service.{specs.declared.{connections.Stage.Stage, seats.Seat.Seat}, proofs.Stages.{came_to_be, safe_on}}
+use Rattle.koth_service.{specs.declared.connections.Stage.Stage, proofs.Stages.{came_to_be, safe_on}}
 
 -- a peer with a seat is there
 pub there_by_seat : {A : Type 0} (s : Session) (slot : Option (Peer A)) (seat : Option Seat) → IsSome seat → StandsAt s slot seat → slot ≢ None

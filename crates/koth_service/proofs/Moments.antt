@@ -4,10 +4,11 @@ use Rattle.std.proofs.Common.{drop, Option, None, Some, refl, sym, ap, subst, �
 use Rattle.{std.proofs.{lemmas.Bool.cases_eq, lemmas.Bool.Decides.eqb_tells}, std.specs.Prelude.IsSome, koth_protocol.specs.Commands.{Command, Reader}}
 use Rattle.koth_session.specs.Peer.{Closes, IsNew, IsPeer, Sends, Takes, settled}
 use Rattle.koth_session.specs.{Inbox.is_met, Peers.{Moves, MovesAt, OnlyAt, Slots, peer_at, unsent_at, unsent_in}, declared.end.PeerEnd.PeerEnd, declared.peer.Peer.Peer}
-use Rattle.koth_service.specs.{Seats.{OnlySeat, SeatMoves, Seats, has_line, has_some, seat_at, seat_drained, seat_heard, seat_map, seat_new, seat_told}, Moment.instead, History.Begins}
+use Rattle.koth_seats.specs.{Seats.{OnlySeat, SeatMoves, Seats, has_line, has_some, seat_at, seat_drained, seat_heard, seat_map, seat_new, seat_told}, declared.seats.{Draining.Draining, Seat.Seat}}
+use Rattle.koth_service.specs.{Moment.instead, History.Begins}
 use Rattle.std.specs.declared.net.socket_addr.SocketAddr.{SocketAddr}
 use Rattle.koth_service.specs.Session.{Session, session_anew, session_at_end, session_came, session_lost, session_shut, session_went}
-use Rattle.koth_service.specs.{Standing.{AreStanding, StandsAt, over_by}, declared.seats.{Draining.Draining, Seat.Seat}}
+use Rattle.koth_service.specs.Standing.{AreStanding, StandsAt, over_by}
 
 not_equal : (a b : ℕ) → a ≢ b → (a == b) ≡ false
 not_equal a b other = elim (eqb_tells a b) [ inl same ↦ absurd (other same.1) | inr differ ↦ differ.0 ]

@@ -2,10 +2,11 @@
 use Rattle.std.proofs.Common.{◌≡◌, ◌∙◌, ℕ, ◌≤◌, false, ap, arith, length, List, [], ◌∷◌, Option, None, refl, sym, subst}
 use Rattle.sector_disk.specs.Facts.{DeviceFacts}
 use Rattle.hill_store.specs.Seen.{Seen}
-use Rattle.koth_session.specs.{Judge.{Fight, fighting}, Peers.{IsOfOne, first_turn, peer_at}, declared.{peer.Peer.Peer, peers.Step.Step}}
-use Rattle.koth_service.specs.{Noted.Noted, Seats.seat_at, Moment.{Happening, Moment, Start, beginning, moment}, Rounds.shares_anew, History.{OpensAgain, Reopens, Shows}}
+use Rattle.koth_session.specs.{Judge.Fight, Peers.{IsOfOne, first_turn, peer_at}, declared.{peer.Peer.Peer, peers.Step.Step}}
+use Rattle.koth_seats.specs.{Seats.seat_at, declared.seats.Seat.Seat}
+use Rattle.koth_service.specs.{Noted.Noted, Moment.{Happening, Moment, Start, beginning, moment}, Rounds.shares_anew, History.{OpensAgain, Reopens, Shows}}
 use Rattle.koth_service.specs.{Services.{IsReopened, IsSoundAfter, IsWithoutFault}, Standing.{GoesOn, IsAtStage, IsCutOff, PeersNow, StandsAfter, StandsAt, peers_of}}
-use Rattle.koth_service.{specs.declared.{connections.Stage.Stage, desk.Desk.Desk, seats.Seat.Seat}, proofs.Stages.{came_to_be, safe_anew}}
+use Rattle.koth_service.{specs.declared.{connections.Stage.Stage, desk.Desk.Desk}, proofs.Stages.{came_to_be, safe_anew}}
 
 module _ {S D A : Type 0} (happened : S → List Noted → Type 0) (facts : DeviceFacts D) (shows : Shows D) (start : Start D) (browsers : ℕ → Option (Stage A)) where
   pub begun : (sockets : S) (peers : PeersNow A) → ((p : ℕ) → peer_at peers.slots p ≡ None) → ((p : ℕ) → seat_at peers.seats p ≡ None) → ((p : ℕ) → browsers p ≡ None)
@@ -19,7 +20,7 @@ module _ {S D A : Type 0} (happened : S → List Noted → Type 0) (facts : Devi
             (λ p. subst (λ (slot : Option (Peer A)). StandsAt (m.sessions p) slot (seat_at peers.seats p)) (sym (nobody p))
             (subst (λ (seat : Option Seat). StandsAt {A = A} (m.sessions p) None seat) (sym (empty p)) refl))
             (λ p. subst (λ (stage : Option (Stage A)). IsAtStage (m.browsers p) stage) (sym (nobody_visits p)) refl) refl places (seats ∙ places) counts
-            (record { clock = sym clock; read_at = sym read_at; turn = sym turn; fighting = sym (ap fighting under_way); shares = sym shares })
+            (record { clock = sym clock; read_at = sym read_at; turn = sym turn; under_way = sym under_way; shares = sym shares })
             (subst (λ (u : Option Fight). IsOfOne start.store.hill.settings peers.slots u) (sym under_way) tt),
         safe_anew facts m.sessions m.browsers m.round start.store sound,
       )

@@ -5,8 +5,9 @@ use Rattle.hill_store.specs.Seen.{Seen}
 use Rattle.koth_protocol.specs.Commands.{Command}
 use Rattle.koth_session.{specs.{Sessions.AreServed, Transcript.{Exchange, answer, command_in}, Inbox.is_met, Judge.Judged}, proofs.{Exchanges.served_on, Holding.keeps_list}}
 use Rattle.koth_session.{specs.{Peer.{IsPeer, Serves, command_of}, Peers.{IsPutOff, IsStepped, asks_in, is_due_in}, declared.{end.PeerEnd.PeerEnd, peer.Peer.Peer}}, proofs.Steps.same_unsent}
-use Rattle.koth_service.specs.{Seats.seat_served, Session.{Session, session_answered, session_over, session_put_off}, Moment.{Moment, answered}, History.IsSafe, Standing.{StandsAt, over_by}}
-use Rattle.koth_service.{specs.declared.seats.Seat.Seat, proofs.{Moments.{over_settled, same_peer}, Due.not_over, Turns.taken_by}}
+use Rattle.koth_seats.specs.{Seats.seat_served, declared.seats.Seat.Seat}
+use Rattle.koth_service.specs.{Session.{Session, session_answered, session_over, session_put_off}, Moment.{Moment, answered}, History.IsSafe, Standing.{StandsAt, over_by}}
+use Rattle.koth_service.proofs.{Moments.{over_settled, same_peer}, Due.not_over, Turns.taken_by}
 
 -- ---- what a command makes of a moment
 
@@ -64,8 +65,8 @@ module _ {D A : Type 0} (facts : DeviceFacts D) where
 -- ---- a submission was begun or fought on, or a source was put off
 
 module _ {D A : Type 0} where
-  pub stepped_at : (n : ℕ) (s : Session) (peer next : Peer A) (seat : Seat) (judge now : Judged D) → IsStepped n peer judge next now → StandsAt s (Some peer) (Some seat) → StandsAt s (Some next) (Some seat)
-  stepped_at n s peer next seat judge now is stands =
+  pub stepped_at : (turns n : ℕ) (s : Session) (peer next : Peer A) (seat : Seat) (judge now : Judged D) → IsStepped turns n peer judge next now → StandsAt s (Some peer) (Some seat) → StandsAt s (Some next) (Some seat)
+  stepped_at turns n s peer next seat judge now is stands =
       let was = stands.0 in (
         record {
           reads = λ reader. same_peer peer next 0 s.came s.done is.stays reader (was.reads reader);

@@ -1,17 +1,18 @@
 -- How a history goes on by a command, by a step of a submission, or by a source that is put off.
-use Rattle.std.proofs.Common.{◌≡◌, ℕ, ◌+◌, Bool, true, false, true≢false, length, List, [], ◌∷◌, Option, None, Some, IsSome, refl, sym, ap, subst, ◌∙◌}
+use Rattle.std.proofs.Common.{◌≡◌, ℕ, ◌+◌, ◌-◌, Bool, true, false, true≢false, length, List, [], ◌∷◌, Option, None, Some, IsSome, refl, sym, ap, subst, ◌∙◌}
 use Rattle.sector_disk.specs.Facts.{DeviceFacts}
 use Rattle.hill_store.specs.Seen.{Assembled, MayBeSpent, Seen}
 use Rattle.koth_protocol.specs.Commands.{Command, kept_source}
 use Rattle.koth_session.{specs.{Sessions.{AreServed, IsLeftOff}, Transcript.{answer, command_in}}, proofs.{Answering.submit_due, Fights.may_serve_now, Holding.keeps_cut}}
-use Rattle.koth_session.specs.{Judge.{Fight, Judged, fighting, without}, Peer.{IsFull, command_of}}
+use Rattle.koth_session.specs.{Judge.{Fight, GoesFurther, IsOfSource, Judged, fighting, without}, Peer.{IsFull, command_of}}
 use Rattle.koth_session.specs.Peers.{IsOfOne, IsPutOff, IsServed, IsStepped, ServesNext, ServesOne, Slots, asks_in, may_serve_in, peer_at, step_after, turn_after}
 use Rattle.koth_session.{specs.declared.{end.PeerEnd.PeerEnd, peer.Peer.Peer, peers.Step.Step, turns.Turn.Turn}, proofs.Steps.same_store}
-use Rattle.koth_service.specs.{Noted.Noted, Seats.{SeatMoves, Seats, seat_at, seat_map, seat_served}, Session.{session_answered, session_over, session_put_off}}
-use Rattle.koth_service.specs.{Moment.{Happening, Moment, Start, is_first, moment}, Rounds.{Shares, has_share, other_than, round_after, shares_stepped}, History.{Answers, Breaks, Fights, HasNoRoom, MayDisconnect, PutsOff, Shows, Stops}}
-use Rattle.koth_service.specs.Standing.{AreStanding, CameToBe, GoesOn, IsCutOff, IsRound, PeersNow, StandsAt, fought_to, over_by, stepped_to}
-use Rattle.koth_service.{specs.declared.{connections.Stage.Stage, host.HowEnded.HowEnded, seats.Seat.Seat}, proofs.Moments.only_seats}
-use Rattle.koth_service.proofs.{Stages.{came_to_be, fighting_without, others_fight, safe_on, some_fights, some_under_way}, Causes.asks}
+use Rattle.koth_seats.specs.{Seats.{SeatMoves, Seats, seat_at, seat_map, seat_served}, declared.seats.Seat.Seat}
+use Rattle.koth_service.specs.{Noted.Noted, Session.{session_answered, session_over, session_put_off}}
+use Rattle.koth_service.specs.{Moment.{Happening, Moment, Start, is_first, moment}, Rounds.{Shares, has_share, round_after, shares_stepped}, History.{Answers, Breaks, Fights, HasNoRoom, MayDisconnect, PutsOff, Shows, Stops}}
+use Rattle.koth_service.specs.Standing.{AreStanding, CameToBe, GoesOn, IsCutOff, IsRound, PeersNow, StandsAt, fought_to, over_by, shared_to}
+use Rattle.koth_service.{specs.declared.{connections.Stage.Stage, host.HowEnded.HowEnded}, proofs.Moments.only_seats}
+use Rattle.koth_service.proofs.{Stages.{came_to_be, safe_on}, Causes.asks}
 use Rattle.koth_service.proofs.{Turns.{IsServing, IsThere, after, stays_standing, there, turn_by, turn_on, turn_on_same}, Outcomes.{answered_at, ended_at, put_off_at, safe_answered, stepped_at}}
 
 -- a seat that stays as it is
@@ -28,7 +29,7 @@ IsServingSo facts steps outcome share n time was new seats turn judge now =
     IsServing (ServedBy facts steps outcome n judge now) (seat_served time) share n was.turn.submission was new seats turn judge
 
 module _ {S D A : Type 0} (happened : S → List Noted → Type 0) (facts : DeviceFacts D) (shows : Shows D) (start : Start D) (browsers : ℕ → Option (Stage A)) (sockets : S)
-    (steps : ℕ) (same_steps : (store : Seen D) → steps ≡ (shows store).steps) (share : Bool) where
+    (steps turns : ℕ) (same_steps : (store : Seen D) → steps ≡ (shows store).steps) (share : Bool) where
   -- the round after it
   round_served : (n : ℕ) (turn : Turn) (m : Moment D) (was : PeersNow A) (new : Slots A) (seats : Seats) (under_way : Option Fight) (judge : Judged D) (first : Bool) → IsRound m.round was
       → is_first n m ≡ first → turn ≡ turn_after first (n + 1) was.turn.submission was.turn → was.under_way ≡ judge.under_way → under_way ≡ without n judge.under_way
@@ -37,7 +38,7 @@ module _ {S D A : Type 0} (happened : S → List Noted → Type 0) (facts : Devi
     clock = round.clock;
     read_at = round.read_at;
     turn = turn_on_same n m was.turn turn first round.turn comes turn_is;
-    fighting = ap (λ f. other_than n f) (round.fighting ∙ ap fighting same) ∙ sym (fighting_without n judge.under_way) ∙ sym (ap fighting is);
+    under_way = ap (λ f. without n f) (round.under_way ∙ same) ∙ sym is;
     shares = round.shares;
   }
 
@@ -57,10 +58,9 @@ module _ {S D A : Type 0} (happened : S → List Noted → Type 0) (facts : Devi
       let e = serves.answers.0 in
       let served : AreServed facts m.now now.store (e ∷ []) = subst (λ (s : Seen D). AreServed facts s now.store (e ∷ [])) (sym before.now_is) serves.answers.2 in
       let safe = safe_answered facts n e now.store m served on.2 in
-      let others = others_fight n m.round.fighting was.under_way judge.under_way round.fighting is.under_way in
-      let beside : IsSome (other_than n m.round.fighting) → now.store ≡ m.now = λ other.
-      at.moved.beside (subst (λ (u : Option Fight). IsSome u) (sym at.moved.under_way)
-      (some_under_way (without n judge.under_way) (subst (λ (k : Option ℕ). IsSome k) others other))) ∙ sym before.now_is in
+      let others = ap (λ u. without n u) (round.under_way ∙ is.under_way) in
+      let beside : IsSome (without n m.round.under_way) → now.store ≡ m.now = λ other.
+      at.moved.beside (subst (λ (u : Option Fight). IsSome u) (others ∙ sym at.moved.under_way) other) ∙ sym before.now_is in
       let answers : Answers facts n e now.store m =
       record { turn = turn_by n m (command_of at.peer) (command_in e) serves.answers.1 at.turn; beside = beside; served = served; safe = safe } in (
         Happening.Answered n e now.store ∷ on.0,
@@ -137,7 +137,7 @@ module _ {S D A : Type 0} (happened : S → List Noted → Type 0) (facts : Devi
       let none = none_left now.under_way judge.store now.store (sym (ap (λ (s : Seen D). s.reopen) before.now_is) ∙ on.2.open_now) left.broken at.moved.beside in
       let breaks : Breaks facts n source now.store m = record {
         turn = turn_by n m (command_of at.peer) (Command.Submit source) serves.answers.1 at.turn;
-        alone = others_fight n m.round.fighting was.under_way judge.under_way round.fighting is.under_way ∙ ap fighting (sym at.moved.under_way ∙ none);
+        alone = ap (λ u. without n u) (round.under_way ∙ is.under_way) ∙ sym at.moved.under_way ∙ none;
         left_off = left;
         safe = on.2;
         holds = keeps_cut facts m.first m.now now.store m.since source on.2.served left;
@@ -176,29 +176,30 @@ module _ {S D A : Type 0} (happened : S → List Noted → Type 0) (facts : Devi
       record { one = one; under_way = same; serves = subst (λ c. SeatMoves (seat_served c) n was.seats seats) (sym on.1.round.clock) serves }
 
   pub served : (n : ℕ) (was : PeersNow A) (new : Slots A) (seats : Seats) (turn : Turn) (judge now : Judged D) → was.under_way ≡ judge.under_way
-      → ServesNext facts (Some steps) share (Step.Served n) was.slots was.turn judge new turn now → IsOfOne now.store.hill.settings new now.under_way
+      → ServesNext facts (Some steps) turns share (Step.Served n) was.slots was.turn judge new turn now → IsOfOne now.store.hill.settings new now.under_way
       → SeatMoves (seat_served was.clock) n was.seats seats → (on : GoesOn happened facts shows start sockets was browsers judge.store) → share ≡ has_share (moment start on.0).round
       → GoesOn happened facts shows start sockets (fought_to new seats turn now.under_way was) browsers now.store
   served n was new seats turn judge now same serves of_one seat on shared =
       served_by serves.0 n was new seats turn judge now serves.1 on shared (serving serves.0 n was new seats turn judge now same on serves.2 seat) of_one
 
   pub cut_off : (n : ℕ) (was : PeersNow A) (new : Slots A) (seats : Seats) (turn : Turn) (judge now : Judged D) → was.under_way ≡ judge.under_way
-      → ServesNext facts (Some steps) share (Step.StoreFailed n) was.slots was.turn judge new turn now → IsOfOne now.store.hill.settings new now.under_way
+      → ServesNext facts (Some steps) turns share (Step.StoreFailed n) was.slots was.turn judge new turn now → IsOfOne now.store.hill.settings new now.under_way
       → SeatMoves (seat_served was.clock) n was.seats seats → (on : GoesOn happened facts shows start sockets was browsers judge.store) → share ≡ has_share (moment start on.0).round
       → IsCutOff happened facts shows start sockets (fought_to new seats turn now.under_way was) browsers now.store
   cut_off n was new seats turn judge now same serves of_one seat on shared =
       cut_by n was new seats turn judge now on shared (serving (Some PeerEnd.StoreFailed) n was new seats turn judge now same on serves seat) of_one
 
   -- a submission was begun, or fought on
-  pub stepped : (n : ℕ) (was : PeersNow A) (new : Slots A) (turn : Turn) (judge now : Judged D) → was.under_way ≡ judge.under_way
-      → ServesNext facts (Some steps) share (Step.Stepped n) was.slots was.turn judge new turn now → IsOfOne now.store.hill.settings new now.under_way
-      → (on : GoesOn happened facts shows start sockets was browsers judge.store) → share ≡ has_share (moment start on.0).round
-      → GoesOn happened facts shows start sockets (stepped_to (fought_to new was.seats turn now.under_way was)) browsers now.store
-  stepped n was new turn judge now same one of_one on shared =
+  pub stepped : (n from : ℕ) (shares : Shares) (was : PeersNow A) (new : Slots A) (turn : Turn) (judge now : Judged D) → was.under_way ≡ judge.under_way → turns ≡ was.shares.turns
+      → shares ≡ shares_stepped was.clock (was.clock - from) was.shares
+      → ServesNext facts (Some steps) turns share (Step.Stepped n) was.slots was.turn judge new turn now → IsOfOne now.store.hill.settings new now.under_way
+      → (on : GoesOn happened facts shows start sockets was browsers judge.store) → (moment start on.0).round.before ≡ from → share ≡ has_share (moment start on.0).round
+      → GoesOn happened facts shows start sockets (shared_to shares (fought_to new was.seats turn now.under_way was)) browsers now.store
+  stepped n from shares was new turn judge now same turns_is shares_are one of_one on began shared =
       let before = on.1 in
       let round = before.round in
       let m = moment start on.0 in
-      let R : Peer A → Peer A → Type 0 = λ p q. IsStepped n p judge q now in
+      let R : Peer A → Peer A → Type 0 = λ p q. IsStepped turns n p judge q now in
       let is : IsServing R (λ seat. seat) share n (n + 1) was new was.seats turn judge = record {
         one = one;
         under_way = same;
@@ -207,29 +208,35 @@ module _ {S D A : Type 0} (happened : S → List Noted → Type 0) (facts : Devi
       let at = there facts R (λ seat. seat) m share n (n + 1) was new was.seats turn judge before.standing is shared round in
       let step = at.moved in
       let source = kept_source at.peer.inbox.script.source in
-      let fights : Fights n source m = record {
+      let fights : Fights n source step.submission m = record {
         turn = turn_by n m (command_of at.peer) (Command.Submit source) (sym (submit_due at.peer.inbox.due source step.submits)) at.turn;
-        alone = others_fight n m.round.fighting was.under_way judge.under_way round.fighting same ∙ ap fighting step.own;
+        alone = ap (λ u. without n u) (round.under_way ∙ same) ∙ step.own;
         sound = on.2.open_now;
-        assembled = subst (λ (s : Seen D). Assembled s source) (sym before.now_is) (step.submission.warrior, step.of_source);
+        assembled = subst (λ (s : Seen D). IsOfSource s.hill.settings source step.submission) (sym before.now_is) step.of_source;
+        further =
+            subst (λ (t : ℕ). GoesFurther t m.now.hill.settings m.round.under_way step.submission) (turns_is ∙ sym (ap (λ (x : Shares). x.turns) round.shares))
+            (subst (λ (u : Option Fight). GoesFurther turns m.now.hill.settings u step.submission) (sym (round.under_way ∙ same))
+            (subst (λ (s : Seen D). GoesFurther turns s.hill.settings judge.under_way step.submission) (sym before.now_is) step.further));
       } in (
-        Happening.Stepped n source ∷ on.0,
+        Happening.Stepped n source step.submission ∷ on.0,
         came_to_be before.logged (fights, before.follows)
-            (stays_standing facts R (λ seat. seat) m share n (n + 1) was new was.seats turn judge before.standing is shared at (stepped_at n (m.sessions n) at.peer at.next at.seat judge now step at.stands))
+            (stays_standing facts R (λ seat. seat) m share n (n + 1) was new was.seats turn judge before.standing is shared at (stepped_at turns n (m.sessions n) at.peer at.next at.seat judge now step at.stands))
             before.visiting (before.now_is ∙ sym step.store) (is.one.moves.only.size ∙ before.places) before.seats before.ended
             (record {
               clock = round.clock;
               read_at = round.read_at;
               turn = turn_on n (n + 1) m was.turn turn _ round.turn at.comes one.next_is;
-              fighting = sym (ap fighting step.under_way);
-              shares = ap (λ (c : ℕ). shares_stepped c m.round.shares) round.clock ∙ ap (λ (x : Shares). shares_stepped was.clock x) round.shares;
+              under_way = sym step.under_way;
+              shares = ap (λ (c : ℕ). shares_stepped c (c - m.round.before) m.round.shares) round.clock
+                  ∙ ap (λ (c : ℕ). shares_stepped was.clock (was.clock - c) m.round.shares) began
+                  ∙ ap (λ (x : Shares). shares_stepped was.clock (was.clock - from) x) round.shares ∙ sym shares_are;
             }) of_one,
         safe_on on.2,
       )
 
   -- a source was put off
   pub put_off : (n : ℕ) (was : PeersNow A) (new : Slots A) (turn : Turn) (judge now : Judged D) → was.under_way ≡ judge.under_way
-      → ServesNext facts (Some steps) share (Step.PutOff n) was.slots was.turn judge new turn now → IsOfOne now.store.hill.settings new now.under_way
+      → ServesNext facts (Some steps) turns share (Step.PutOff n) was.slots was.turn judge new turn now → IsOfOne now.store.hill.settings new now.under_way
       → (on : GoesOn happened facts shows start sockets was browsers judge.store) → share ≡ has_share (moment start on.0).round
       → GoesOn happened facts shows start sockets (fought_to new was.seats turn now.under_way was) browsers now.store
   put_off n was new turn judge now same one of_one on shared =
@@ -246,10 +253,9 @@ module _ {S D A : Type 0} (happened : S → List Noted → Type 0) (facts : Devi
       let at = there facts R (λ seat. seat) m share n was.turn.submission was new was.seats turn judge before.standing is shared round in
       let put = at.moved in
       let source = kept_source at.peer.inbox.script.source in
-      let others = others_fight n m.round.fighting was.under_way judge.under_way round.fighting same in
       let puts_off : PutsOff n source m = record {
         turn = turn_by n m (command_of at.peer) (Command.Submit source) (sym (submit_due at.peer.inbox.due source put.submits)) at.turn;
-        beside = subst (λ (k : Option ℕ). IsSome k) (sym others) (some_fights (without n judge.under_way) put.another);
+        beside = subst (λ (u : Option Fight). IsSome (without n u)) (sym (round.under_way ∙ same)) put.another;
         assembled = subst (λ (s : Seen D). Assembled s source) (sym before.now_is) put.assembled;
       } in (
         Happening.PutOff n source ∷ on.0,
@@ -260,7 +266,7 @@ module _ {S D A : Type 0} (happened : S → List Noted → Type 0) (facts : Devi
               clock = round.clock;
               read_at = round.read_at;
               turn = turn_on_same n m was.turn turn _ round.turn at.comes one.next_is;
-              fighting = round.fighting ∙ ap fighting same ∙ sym (ap (λ (j : Judged D). fighting j.under_way) put.same);
+              under_way = round.under_way ∙ same ∙ sym (ap (λ (j : Judged D). j.under_way) put.same);
               shares = round.shares;
             }) of_one,
         safe_on on.2,
@@ -277,16 +283,16 @@ module _ {S D A : Type 0} (happened : S → List Noted → Type 0) (facts : Devi
       subst (λ (u : Option Fight). IsOfOne judge.store.hill.settings new u) (sym ways) (subst (λ (l : Slots A). IsOfOne judge.store.hill.settings l was.under_way) (sym slots) before.of_one) in
       came_to_be before.logged before.follows (subst (λ (l : Slots A). AreStanding (moment start history).sessions l was.seats) (sym slots) before.standing) before.visiting
       (before.now_is ∙ sym (ap (λ (j : Judged D). j.store) judge_is)) (ap length slots ∙ before.places) before.seats before.ended
-      (record { clock = round.clock; read_at = round.read_at; turn = round.turn ∙ sym same; fighting = round.fighting ∙ sym (ap fighting ways); shares = round.shares })
+      (record { clock = round.clock; read_at = round.read_at; turn = round.turn ∙ sym same; under_way = round.under_way ∙ sym ways; shares = round.shares })
       (subst (λ (j : Judged D). IsOfOne j.store.hill.settings new now.under_way) (sym judge_is) of_was)
 
-  pub nobody : (was : PeersNow A) (new : Slots A) (turn : Turn) (judge now : Judged D) → was.under_way ≡ judge.under_way → ServesNext facts (Some steps) share Step.Nobody was.slots was.turn judge new turn now
+  pub nobody : (was : PeersNow A) (new : Slots A) (turn : Turn) (judge now : Judged D) → was.under_way ≡ judge.under_way → ServesNext facts (Some steps) turns share Step.Nobody was.slots was.turn judge new turn now
       → GoesOn happened facts shows start sockets was browsers judge.store → GoesOn happened facts shows start sockets (fought_to new was.seats turn now.under_way was) browsers now.store
   nobody was new turn judge now same serves on = (on.0, unserved was new turn judge now on.0 same serves.1 serves.2 serves.3 on.1, on.2)
 
   -- a browser's request is due
   pub asked : (n : ℕ) (was : PeersNow A) (new : Slots A) (turn : Turn) (judge now : Judged D) → was.under_way ≡ judge.under_way
-      → ServesNext facts (Some steps) share (Step.Asked n) was.slots was.turn judge new turn now → (on : GoesOn happened facts shows start sockets was browsers judge.store)
+      → ServesNext facts (Some steps) turns share (Step.Asked n) was.slots was.turn judge new turn now → (on : GoesOn happened facts shows start sockets was browsers judge.store)
       → (then : GoesOn happened facts shows start sockets (fought_to new was.seats turn now.under_way was) browsers now.store)
       × MayDisconnect start.most n HowEnded.Browser (moment start then.0)
   asked n was new turn judge now same serves on = (

@@ -1,8 +1,8 @@
 -- What one part of a moment makes of the others.
 use Rattle.std.proofs.{Common.{◌≡◌, ◌∙◌, inl, inr, ℕ, ◌≤◌, ◌==◌, max, Bool, true, true≢false, false, if◌then◌else◌, length, List, [], Option, None, Some, IsSome, ap, refl, sym, subst}, lemmas.Bool.cases_eq}
 use Rattle.sector_disk.specs.Facts.{DeviceFacts}
-use Rattle.{hill_store.specs.Seen.Seen, koth_session.specs.{Judge.{Fight, fighting, without}, Peers.IsOfOne}, koth_session.proofs.{Exchanges.served_none, Holding.keeps_list}}
-use Rattle.koth_service.specs.{Noted.Noted, Session.{Browser, Session}, Moment.{Happening, Moment, Start, ended_in, instead, moment, noted}, Rounds.{Round, Shares, other_than, shares_at}, History.{IsHistory, IsSafe, Shows}}
+use Rattle.{hill_store.specs.Seen.Seen, koth_session.specs.Peers.IsOfOne, koth_session.proofs.{Exchanges.served_none, Holding.keeps_list}}
+use Rattle.koth_service.specs.{Noted.Noted, Session.{Browser, Session}, Moment.{Happening, Moment, Start, ended_in, instead, moment, noted}, Rounds.{Round, Shares, shares_at}, History.{IsHistory, IsSafe, Shows}}
 use Rattle.koth_service.specs.{Standing.{AreAtStages, AreStanding, CameToBe, IsAtStage, IsRound, PeersNow}, declared.connections.Stage.Stage}
 use Rattle.koth_service.proofs.Moments.{instead_other, instead_same}
 
@@ -59,27 +59,6 @@ module _ {A : Type 0} (visitors : ℕ → Browser) (browsers : ℕ → Option (S
 
   pub stages_over : (before : Stage A) → AreAtStages visitors (instead browsers n (Some before)) → AreAtStages visitors (instead browsers n (Some Stage.Parting))
   stages_over before are = λ p. parting_of_one (p == n) (visitors p) (browsers p) before (are p)
-
--- ---- the submission of a peer is not under way any more
-
-pub fighting_without : (n : ℕ) (under_way : Option Fight) → fighting (without n under_way) ≡ other_than n (fighting under_way)
-fighting_without n None = refl
-fighting_without n (Some (k, submission)) = at (n == k)
-  where
-    at : (own : Bool) → fighting (if own then None else Some (k, submission)) ≡ (if own then None else Some k)
-    at true = refl
-    at false = refl
-
-pub others_fight : (n : ℕ) (fights : Option ℕ) (was under_way : Option Fight) → fights ≡ fighting was → was ≡ under_way → other_than n fights ≡ fighting (without n under_way)
-others_fight n fights was under_way is same = ap (λ f. other_than n f) (is ∙ ap fighting same) ∙ sym (fighting_without n under_way)
-
-pub some_under_way : (under_way : Option Fight) → IsSome (fighting under_way) → IsSome under_way
-some_under_way None is = is
-some_under_way (Some fight) is = refl
-
-pub some_fights : (under_way : Option Fight) → IsSome under_way → IsSome (fighting under_way)
-some_fights None is = is
-some_fights (Some fight) is = refl
 
 -- ---- the shares when the time was told
 

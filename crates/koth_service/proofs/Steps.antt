@@ -3,14 +3,15 @@ use Rattle.std.proofs.Common.{◌≡◌, ◌≢◌, ◌∙◌, ◌==◌, ℕ, �
 use Rattle.std.{proofs.Common.{refl, sym, subst}, specs.declared.net.socket_addr.SocketAddr.SocketAddr}
 use Rattle.sector_disk.specs.Facts.{DeviceFacts}
 use Rattle.hill_store.specs.Seen.{Seen}
-use Rattle.koth_session.{specs.{Judge.{Fight, fighting, without}, Peer.{Closes, Sends, Takes}}, proofs.Fights.{closes_still, of_moved, of_new, of_others, sends_still}}
+use Rattle.koth_session.{specs.{Judge.{Fight, without}, Peer.{Closes, Sends, Takes}}, proofs.Fights.{closes_still, of_moved, of_new, of_others, sends_still}}
 use Rattle.koth_session.specs.Peers.{Connects, IsOfOne, MovesAt, OnlyAt, Slots, end_in, is_finished_in, may_come_at, may_come_in, peer_at, unsent_at, unsent_in}
 use Rattle.koth_session.specs.declared.{peers.NotConnected.NotConnected, turns.Turn.Turn}
-use Rattle.koth_service.specs.{Noted.{Adds, Noted, Stays}, Seats.{OnlySeat, SeatMoves, Seats, seat_at, seat_drained, seat_heard, seat_new, seat_told}, Session.{Session, session_lost}}
-use Rattle.koth_service.specs.{Moment.{Happening, Start, ended_in, moment, noted}, Rounds.{Shares, other_than, shares_at}, History.{MayDisconnect, Shows}}
+use Rattle.koth_seats.specs.{Seats.{OnlySeat, SeatMoves, Seats, seat_at, seat_drained, seat_heard, seat_new, seat_told}, declared.seats.{Draining.Draining, Seat.Seat}}
+use Rattle.koth_service.specs.{Noted.{Adds, Noted, Stays}, Session.{Session, session_lost}}
+use Rattle.koth_service.specs.{Moment.{Happening, Start, ended_in, moment, noted}, Rounds.{Shares, shares_at}, History.{MayDisconnect, Shows}}
 use Rattle.koth_service.specs.Standing.{AwaitedIn, GoesOn, PeersNow, moved_to, served_to, shares_by, shown_to, timed_to, told_to}
-use Rattle.koth_service.{specs.declared.{connections.Stage.Stage, host.HowEnded.HowEnded, seats.{Draining.Draining, Seat.Seat}}, proofs.{Due.finished_at, Causes.not_silent}}
-use Rattle.koth_service.proofs.Stages.{came_to_be, fighting_without, safe_on, told_shares}
+use Rattle.koth_service.{specs.declared.{connections.Stage.Stage, host.HowEnded.HowEnded}, proofs.{Due.finished_at, Causes.not_silent}}
+use Rattle.koth_service.proofs.Stages.{came_to_be, safe_on, told_shares}
 use Rattle.koth_service.proofs.Moments.{few_from, free_at, instead_same, owed_to, standing_came, standing_closed, standing_drained, standing_left, standing_lost, standing_new, standing_shut}
 use Rattle.koth_service.proofs.Moments.{standing_went, there_at}
 
@@ -64,7 +65,7 @@ module _ {S D A : Type 0} (happened : S → List Noted → Type 0) (facts : Devi
               clock = ap (λ c. max c time) round.clock ∙ sym is;
               read_at = round.read_at;
               turn = round.turn;
-              fighting = round.fighting;
+              under_way = round.under_way;
               shares = told_shares m.round.clock was.clock time clock m.round.shares was.shares round.clock is round.shares;
             }) before.of_one,
         safe_on on.2,
@@ -101,7 +102,7 @@ module _ {S D A : Type 0} (happened : S → List Noted → Type 0) (facts : Devi
               clock = told;
               read_at = told;
               turn = round.turn;
-              fighting = round.fighting;
+              under_way = round.under_way;
               shares = told_shares m.round.clock was.clock time clock m.round.shares was.shares round.clock is round.shares;
             }) before.of_one,
         safe_on on.2,
@@ -116,7 +117,7 @@ module _ {S D A : Type 0} (happened : S → List Noted → Type 0) (facts : Devi
         (
           Happening.On Noted.Arrived ∷ on.0,
           came_to_be (adds (noted on.0) before.logged) (tt, before.follows) before.standing before.visiting before.now_is before.places before.seats before.ended
-              (record { clock = round.clock; read_at = round.read_at; turn = round.turn; fighting = round.fighting; shares = round.shares }) before.of_one,
+              (record { clock = round.clock; read_at = round.read_at; turn = round.turn; under_way = round.under_way; shares = round.shares }) before.of_one,
           safe_on on.2,
         ),
         refl,
@@ -130,7 +131,7 @@ module _ {S D A : Type 0} (happened : S → List Noted → Type 0) (facts : Devi
       let round = before.round in (
         Happening.On Noted.Refused ∷ on.0,
         came_to_be (adds (noted on.0) before.logged) (tt, before.follows) before.standing before.visiting before.now_is before.places before.seats before.ended
-            (record { clock = round.clock; read_at = round.read_at; turn = round.turn; fighting = round.fighting; shares = round.shares }) before.of_one,
+            (record { clock = round.clock; read_at = round.read_at; turn = round.turn; under_way = round.under_way; shares = round.shares }) before.of_one,
         safe_on on.2,
       )
 
@@ -150,7 +151,7 @@ module _ {S D A : Type 0} (happened : S → List Noted → Type 0) (facts : Devi
         came_to_be (adds (noted on.0) before.logged) ((free_at m.sessions n was.slots was.seats connects.2 before.standing, few), before.follows)
             (standing_new m.sessions n m.round.clock connects.4 address was.slots now.slots was.seats now.seats connects.0 only connects.5 at connects.6 before.standing)
             before.visiting before.now_is (connects.0.size ∙ before.places) (only.size ∙ before.seats) (subst (λ (k : ℕ). k ≤ ended_in (noted on.0)) (sym ended) before.ended)
-            (record { clock = round.clock ∙ sym clock; read_at = round.read_at ∙ sym read_at; turn = round.turn ∙ sym turn; fighting = round.fighting ∙ sym (ap fighting under_way); shares = round.shares ∙ sym shares })
+            (record { clock = round.clock ∙ sym clock; read_at = round.read_at ∙ sym read_at; turn = round.turn ∙ sym turn; under_way = round.under_way ∙ sym under_way; shares = round.shares ∙ sym shares })
             (subst (λ (u : Option Fight). IsOfOne store.hill.settings now.slots u) (sym under_way)
             (of_new store.hill.settings n was.slots now.slots was.under_way connects.0 connects.2 before.of_one)),
         safe_on on.2,
@@ -183,7 +184,7 @@ module _ {S D A : Type 0} (happened : S → List Noted → Type 0) (facts : Devi
         came_to_be (adds (noted on.0) before.logged)
             ((there_at m.sessions n was.slots was.seats there before.standing, few_from m.sessions n bytes was.slots new was.seats there moves before.standing), before.follows)
             (standing_came m.sessions n bytes m.round.clock was.slots new was.seats seats moves heard before.standing) before.visiting before.now_is
-            (moves.only.size ∙ before.places) (hears.only.size ∙ before.seats) before.ended (record { clock = round.clock; read_at = round.read_at; turn = round.turn ∙ sym same; fighting = round.fighting; shares = round.shares })
+            (moves.only.size ∙ before.places) (hears.only.size ∙ before.seats) before.ended (record { clock = round.clock; read_at = round.read_at; turn = round.turn ∙ sym same; under_way = round.under_way; shares = round.shares })
             (of_moved (λ p q. Takes p bytes q) store.hill.settings n was.slots new was.under_way (λ p q takes due. takes.still due) moves before.of_one),
         safe_on on.2,
       )
@@ -197,7 +198,7 @@ module _ {S D A : Type 0} (happened : S → List Noted → Type 0) (facts : Devi
         Happening.On (Noted.AtEnd n) ∷ on.0,
         came_to_be (adds (noted on.0) before.logged) (tt, before.follows)
             (standing_closed (moment start on.0).sessions n was.slots new was.seats moves before.standing)
-            before.visiting before.now_is (moves.only.size ∙ before.places) before.seats before.ended (record { clock = round.clock; read_at = round.read_at; turn = round.turn ∙ sym same; fighting = round.fighting; shares = round.shares })
+            before.visiting before.now_is (moves.only.size ∙ before.places) before.seats before.ended (record { clock = round.clock; read_at = round.read_at; turn = round.turn ∙ sym same; under_way = round.under_way; shares = round.shares })
             (of_moved Closes store.hill.settings n was.slots new was.under_way closes_still moves before.of_one),
         safe_on on.2,
       )
@@ -214,7 +215,7 @@ module _ {S D A : Type 0} (happened : S → List Noted → Type 0) (facts : Devi
         Happening.On (Noted.Told n (take count (unsent_at was.slots n))) ∷ on.0,
         came_to_be (adds (noted on.0) before.logged) (owed_to m.sessions n count was.slots was.seats some before.standing, before.follows)
             (standing_went m.sessions n count m.round.clock was.slots new was.seats seats moves told before.standing) before.visiting before.now_is
-            (moves.only.size ∙ before.places) (tells.only.size ∙ before.seats) before.ended (record { clock = round.clock; read_at = round.read_at; turn = round.turn ∙ sym same; fighting = round.fighting; shares = round.shares })
+            (moves.only.size ∙ before.places) (tells.only.size ∙ before.seats) before.ended (record { clock = round.clock; read_at = round.read_at; turn = round.turn ∙ sym same; under_way = round.under_way; shares = round.shares })
             (of_moved (λ p q. Sends p count q) store.hill.settings n was.slots new was.under_way (sends_still count) moves before.of_one),
         safe_on on.2,
       )
@@ -230,7 +231,7 @@ module _ {S D A : Type 0} (happened : S → List Noted → Type 0) (facts : Devi
         Happening.On (Noted.Shut n) ∷ on.0,
         came_to_be (adds (noted on.0) before.logged) (finished_at (m.sessions n) (peer_at was.slots n) (seat_at was.seats n) (before.standing n) ended is, before.follows)
             (standing_shut m.sessions n draining was.slots was.seats seats drains before.standing) before.visiting before.now_is
-            before.places (drains.only.size ∙ before.seats) before.ended (record { clock = round.clock; read_at = round.read_at; turn = round.turn; fighting = round.fighting; shares = round.shares }) before.of_one,
+            before.places (drains.only.size ∙ before.seats) before.ended (record { clock = round.clock; read_at = round.read_at; turn = round.turn; under_way = round.under_way; shares = round.shares }) before.of_one,
         safe_on on.2,
       )
 
@@ -244,7 +245,7 @@ module _ {S D A : Type 0} (happened : S → List Noted → Type 0) (facts : Devi
         on.0,
         came_to_be (same (noted on.0) before.logged) before.follows
             (standing_drained (moment start on.0).sessions n draining was.slots was.seats seats shut_before drains before.standing) before.visiting before.now_is
-            before.places (drains.only.size ∙ before.seats) before.ended (record { clock = round.clock; read_at = round.read_at; turn = round.turn; fighting = round.fighting; shares = round.shares }) before.of_one,
+            before.places (drains.only.size ∙ before.seats) before.ended (record { clock = round.clock; read_at = round.read_at; turn = round.turn; under_way = round.under_way; shares = round.shares }) before.of_one,
         on.2,
       )
 
@@ -260,7 +261,7 @@ module _ {S D A : Type 0} (happened : S → List Noted → Type 0) (facts : Devi
         (
           Happening.On (Noted.Lost n) ∷ on.0,
           came_to_be (adds (noted on.0) before.logged) (tt, before.follows) (standing_lost m.sessions n was.slots was.seats before.standing) before.visiting before.now_is
-              before.places before.seats before.ended (record { clock = round.clock; read_at = round.read_at; turn = round.turn; fighting = round.fighting; shares = round.shares }) before.of_one,
+              before.places before.seats before.ended (record { clock = round.clock; read_at = round.read_at; turn = round.turn; under_way = round.under_way; shares = round.shares }) before.of_one,
           safe_on on.2,
         ),
         (
@@ -292,7 +293,7 @@ module _ {S D A : Type 0} (happened : S → List Noted → Type 0) (facts : Devi
               clock = round.clock ∙ sym clock;
               read_at = round.read_at ∙ sym read_at;
               turn = round.turn ∙ sym turn;
-              fighting = ap (λ f. other_than n f) round.fighting ∙ sym (ap fighting under_way ∙ fighting_without n was.under_way);
+              under_way = ap (λ f. without n f) round.under_way ∙ sym under_way;
               shares = round.shares ∙ sym shares;
             })
             (subst (λ (s : Seen D). IsOfOne s.hill.settings now.slots now.under_way) (sym same) others),

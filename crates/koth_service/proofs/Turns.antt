@@ -7,8 +7,9 @@ use Rattle.koth_session.{proofs.Fights.may_serve_now, specs.{Inbox.{IsTaken, is_
 use Rattle.koth_session.specs.Peer.{HasRead, IsPeer, command_due, command_of, is_due, is_due_now}
 use Rattle.koth_session.specs.Peers.{IsAhead, IsNext, Moves, ServesOne, Slots, asks_in, goes_first, goes_first_at, goes_first_in, is_due_in, may_serve_in, peer_at, is_beside, turn_after}
 use Rattle.koth_session.{specs.declared.{end.PeerEnd.PeerEnd, inbox.Inbox.Inbox, peer.Peer.Peer, turns.Turn.Turn}, proofs.Standing.{behind_met, those_came}}
-use Rattle.koth_service.specs.{Seats.{SeatMoves, Seats, seat_at, seat_map}, Session.Session, Moment.{Moment, instead, is_first}, Rounds.{Round, Shares, has_share}, History.{Begins, IsBeside, IsTurn, MayBeServed}}
-use Rattle.koth_service.{specs.{Standing.{AreStanding, IsRound, PeersNow, Stands, StandsAt}, declared.{seats.Seat.Seat, times.TheConstants.SHARE}}, proofs.{Moments.{at_both, standing_with}, Due.{idle, not_over}}}
+use Rattle.koth_seats.specs.{Seats.{SeatMoves, Seats, seat_at, seat_map}, declared.{seats.Seat.Seat, times.TheConstants.SHARE}}
+use Rattle.koth_service.specs.{Session.Session, Moment.{Moment, instead, is_first}, Rounds.{Round, Shares, has_share}, History.{Begins, IsBeside, IsTurn, MayBeServed}}
+use Rattle.koth_service.{specs.Standing.{AreStanding, IsRound, PeersNow, Stands, StandsAt}, proofs.{Moments.{at_both, standing_with}, Due.{idle, not_over}}}
 
 -- ---- truth values and lists
 
@@ -49,7 +50,7 @@ module _ {A : Type 0} where
       true≢false (sym waits ∙ sym stands.waits ∙ goes)
 
   -- of a peer whose slot says so nothing may be carried out
-  pub nobody_may : {D : Type 0} (busy : Option ℕ) (m : Moment D) (p : ℕ) (slot : Option (Peer A)) (seat : Option Seat) → StandsAt (m.sessions p) slot seat → m.round.fighting ≡ busy
+  pub nobody_may : {D : Type 0} (busy : Option ℕ) (m : Moment D) (p : ℕ) (slot : Option (Peer A)) (seat : Option Seat) → StandsAt (m.sessions p) slot seat → fighting m.round.under_way ≡ busy
       → may_serve_in busy p slot ≡ false → MayBeServed m p → ⊥
   nobody_may busy m p None None stands same never may = true≢false (sym may.0 ∙ stands)
   nobody_may busy m p None (Some seat) stands same never may = absurd stands
@@ -70,9 +71,9 @@ module _ {A : Type 0} where
   first_in share busy p s (Some peer) (Some seat) stands there = ap (λ w. goes_first share busy p w) stands.0.waits
 
   first_at : {D : Type 0} (share : Bool) (busy : Option ℕ) (m : Moment D) (p : ℕ) (slot : Option (Peer A)) (seat : Option Seat) → StandsAt (m.sessions p) slot seat
-      → (m.sessions p).there ≡ true → share ≡ has_share m.round → m.round.fighting ≡ busy → is_first p m ≡ goes_first_in share busy p slot
+      → (m.sessions p).there ≡ true → share ≡ has_share m.round → fighting m.round.under_way ≡ busy → is_first p m ≡ goes_first_in share busy p slot
   first_at share busy m p slot seat stands there shared fights =
-      ap (λ (h : Bool). goes_first h m.round.fighting p (m.sessions p).waits) (sym shared) ∙ ap (λ (f : Option ℕ). goes_first share f p (m.sessions p).waits) fights
+      ap (λ (h : Bool). goes_first h (fighting m.round.under_way) p (m.sessions p).waits) (sym shared) ∙ ap (λ (f : Option ℕ). goes_first share f p (m.sessions p).waits) fights
       ∙ first_in share busy p (m.sessions p) slot seat stands there
 
 -- ---- the command that is due is the next one in what came, if it is no browser's request
@@ -103,7 +104,7 @@ module _ {D A : Type 0} (facts : DeviceFacts D) where
   -- it is this peer's turn
   pub turn_of : (share : Bool) (n : ℕ) (m : Moment D) (slots : Slots A) (seats : Seats) (peer : Peer A) (seat : Seat) (from : Turn) (busy : Option ℕ)
       → ((p : ℕ) → StandsAt (m.sessions p) (peer_at slots p) (seat_at seats p)) → Stands (m.sessions n) peer → may_serve_in busy n (Some peer) ≡ true → asks_in (Some peer) ≡ false
-      → m.round.turn ≡ from → m.round.fighting ≡ busy → share ≡ has_share m.round → is_first n m ≡ goes_first_at share busy slots n → IsNext share busy slots from n
+      → m.round.turn ≡ from → fighting m.round.under_way ≡ busy → share ≡ has_share m.round → is_first n m ≡ goes_first_at share busy slots n → IsNext share busy slots from n
       → IsTurn n (command_of peer) m
   turn_of share n m slots seats peer seat from busy standing at may other turn fights shared comes next =
       let s = m.sessions n in
@@ -175,7 +176,7 @@ module _ {D A : Type 0} (facts : DeviceFacts D) (R : Peer A → Peer A → Type 
   there_in (Some peer) None round slot_is seat_is may other stands = absurd stands
   there_in (Some peer) (Some seat) round slot_is seat_is may other stands =
       let moved : Moves R (Some peer) (peer_at new n) = subst (λ slot. Moves R slot (peer_at new n)) slot_is is.one.moves.at in
-      let fights : m.round.fighting ≡ fighting judge.under_way = round.fighting ∙ ap fighting is.under_way in
+      let fights : fighting m.round.under_way ≡ fighting judge.under_way = ap fighting (round.under_way ∙ is.under_way) in
       let comes : is_first n m ≡ first_now =
       first_at share (fighting judge.under_way) m n (peer_at was.slots n) (seat_at was.seats n) (standing n) stands.0.there shared fights in record {
         peer = peer;

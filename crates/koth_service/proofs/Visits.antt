@@ -1,8 +1,9 @@
 -- How a history goes on by what happens with browsers.
 use Rattle.std.proofs.Common.{◌≡◌, ◌∙◌, inl, inr, ◌<◌, ◌≤◌, length, ◌&&◌, ◌||◌, not, ℕ, Bool, true, false, true≢false, ap, List, [], ◌∷◌, ◌++◌, take, drop, Option, None, Some, refl, sym, subst, append_assoc, take-append-drop}
+use Rattle.koth_seats.specs.Seats.{seat_at}
 use Rattle.{sector_disk.specs.Facts.DeviceFacts, hill_store.specs.Seen.Seen, koth_service.specs.{Noted.{Adds, Noted, ReadsBrowser, Stays}, Answering.AnswersBytes}}
 use Rattle.koth_service.specs.{Session.{Browser, browser_anew, browser_asks, browser_came, browser_replied, browser_went}, Moment.{Happening, Moment, Start, instead, moment, noted}, History.{MayReply, Replies, Shows, owed_by}}
-use Rattle.koth_service.specs.{Rounds.{Shares, shares_shown}, Seats.seat_at, Standing.{AreStanding, GoesOn, IsAtStage, IsRound, PeersNow, shown_to}}
+use Rattle.koth_service.specs.{Rounds.{Shares, shares_shown}, Standing.{AreStanding, GoesOn, IsAtStage, IsRound, PeersNow, shown_to}}
 use Rattle.{koth_http.specs.Asked.IsAsked, koth_session.specs.{Judge.fighting, Peers.peer_at}}
 use Rattle.koth_service.specs.{Connections.{ClosesUnless, ComesTo, Connections, IsFree, MayShow, ShownOn, StaysAt, stage_at, stage_in}, declared.sockets.Came.Came, declared.connections.Connection.Connection}
 use Rattle.koth_service.specs.declared.connections.Stage.{Stage}
@@ -42,7 +43,7 @@ module _ {S D A : Type 0} (happened : S → List Noted → Type 0) (facts : Devi
         came_to_be (adds (noted on.0) before.logged) ((stage_here m.browsers browsers n None before.visiting, within), before.follows) before.standing
             (stages_with m.browsers browsers n b None (Some (Stage.Asking [] since)) (ap (λ (c : ℕ). browser_anew true c) (round.clock ∙ now), inl refl) before.visiting)
             before.now_is before.places before.seats before.ended
-            (record { clock = round.clock; read_at = round.read_at; turn = round.turn; fighting = round.fighting; shares = round.shares }) before.of_one,
+            (record { clock = round.clock; read_at = round.read_at; turn = round.turn; under_way = round.under_way; shares = round.shares }) before.of_one,
         safe_on on.2,
       )
 
@@ -81,7 +82,7 @@ module _ {S D A : Type 0} (happened : S → List Noted → Type 0) (facts : Devi
     ap (λ (x : Shares). x.shown) round.shares ∙ may.0,
     elim may.1 [
       | inl over ↦ inl (subst (λ (x : Shares). x.shown_until ≤ m.round.clock) (sym round.shares) (subst (λ (c : ℕ). peers.shares.shown_until ≤ c) (sym round.clock) over))
-      | inr idle ↦ inr (λ p may. nobody_may (fighting peers.under_way) m p (peer_at peers.slots p) (seat_at peers.seats p) (standing p) round.fighting (idle p) may)
+      | inr idle ↦ inr (λ p may. nobody_may (fighting peers.under_way) m p (peer_at peers.slots p) (seat_at peers.seats p) (standing p) (ap fighting round.under_way) (idle p) may)
     ],
   )
 
@@ -112,7 +113,7 @@ module _ {S D A : Type 0} (happened : S → List Noted → Type 0) (facts : Devi
             (stages_with m.browsers browsers n b (Some (Stage.Asked visit)) (Some (Stage.Answering reply)) (ap (λ (x : Browser). x.there) here, ap (λ (x : Browser). x.went ++ reply) here)
             before.visiting)
             before.now_is before.places before.seats before.ended
-            (record { clock = round.clock; read_at = round.read_at; turn = round.turn; fighting = round.fighting; shares = ap shares_shown round.shares }) before.of_one,
+            (record { clock = round.clock; read_at = round.read_at; turn = round.turn; under_way = round.under_way; shares = ap shares_shown round.shares }) before.of_one,
         safe_on on.2,
       )
 
@@ -208,7 +209,7 @@ module _ {S D A : Type 0} (happened : S → List Noted → Type 0) (facts : Devi
         (
           Happening.On Noted.Called ∷ on.0,
           came_to_be (adds (noted on.0) before.logged) (tt, before.follows) before.standing before.visiting before.now_is before.places before.seats before.ended
-              (record { clock = round.clock; read_at = round.read_at; turn = round.turn; fighting = round.fighting; shares = round.shares }) before.of_one,
+              (record { clock = round.clock; read_at = round.read_at; turn = round.turn; under_way = round.under_way; shares = round.shares }) before.of_one,
           safe_on on.2,
         ),
         refl,
@@ -230,7 +231,7 @@ module _ {S D A : Type 0} (happened : S → List Noted → Type 0) (facts : Devi
       let round = before.round in (
         Happening.On Noted.TurnedAway ∷ on.0,
         came_to_be (adds (noted on.0) before.logged) (tt, before.follows) before.standing before.visiting before.now_is before.places before.seats before.ended
-            (record { clock = round.clock; read_at = round.read_at; turn = round.turn; fighting = round.fighting; shares = round.shares }) before.of_one,
+            (record { clock = round.clock; read_at = round.read_at; turn = round.turn; under_way = round.under_way; shares = round.shares }) before.of_one,
         safe_on on.2,
       )
 

@@ -5,9 +5,9 @@ use Rattle.std.specs.{Prelude.{Vec, slice_index_or}, declared.alloc.AllocError.A
 use Rattle.{sector_disk.specs.Facts.DeviceFacts, hill_store.specs.Seen.Seen}
 use Rattle.koth_session.specs.{Judge.fighting, Peers.may_serve_at}
 use Rattle.koth_http.specs.{Asked.IsAsked, Response.{page_response, refusal_response}, declared.refusal.Refusal.Refusal}
+use Rattle.koth_seats.specs.{Seats.{longer, IsUnused, has_some}, declared.times.TheConstants.{UNASKED, UNHEARD}}
 use Rattle.koth_service.specs.{Noted.{Adds, Noted, Stays}, Answering.{AnswersBytes, Site}, Moment.{Start, instead, moment}}
-use Rattle.koth_service.specs.{Places.{IsLongest, longer}, Seats.{IsUnused, has_some}}
-use Rattle.koth_service.specs.declared.times.TheConstants.{UNASKED, UNHEARD}
+use Rattle.koth_service.specs.Places.{IsLongest}
 use Rattle.koth_service.specs.{History.Shows, Standing.{GoesOn, PeersNow, peers_of, shown_to}, declared.moves.Moved.Moved}
 use Rattle.koth_service.specs.{declared.connections.Browsers.Browsers, declared.connections.Connection.Connection}
 use Rattle.koth_service.specs.{declared.connections.Stage.Stage, declared.desk.Desk.Desk}

@@ -2,13 +2,15 @@
 use Rattle.std.specs.Prelude.{◌≡◌, ◌⊎◌, ⊤, ℕ, ◌-◌, ◌<◌, ◌≤◌, true, false, List, []}
 use Rattle.std.specs.Prelude.{◌∷◌, ◌++◌, length, Option, None, Some, IsSome}
 use Rattle.sector_disk.specs.{Facts.DeviceFacts, Served.IsKept}
-use Rattle.hill_store.specs.{Opened.IsOpened, Seen.{Assembled, MayBeSpent, Seen}}
+use Rattle.hill_store.specs.{Opened.IsOpened, Seen.{Assembled, MayBeSpent, Seen}, Submission.SubmissionParts}
 use Rattle.{koth_http.specs.Asked.IsAsked, koth_protocol.specs.Commands.{Command, Reader, commands_read}}
 use Rattle.koth_session.specs.{Sessions.{AreServed, IsLeftOff, KeepsCut, KeepsList}, Transcript.{Exchange, command_in}}
-use Rattle.koth_session.specs.{Peer.IsFull, Peers.IsAhead, declared.end.PeerEnd.PeerEnd}
+use Rattle.koth_session.specs.{Judge.{GoesFurther, IsOfSource, fighting, without}, Peer.IsFull, Peers.IsAhead}
+use Rattle.koth_session.specs.{declared.end.PeerEnd.PeerEnd}
+use Rattle.koth_seats.specs.declared.times.TheConstants.{PATIENCE, UNASKED, UNHEARD, UNSPOKEN, UNUSED}
 use Rattle.koth_service.specs.{Answering.{AnswersBytes, Site}, Noted.Noted, Session.Session}
-use Rattle.koth_service.specs.{Moment.{Happening, Moment, Start, answered, is_first, moment}, Rounds.other_than}
-use Rattle.koth_service.specs.declared.{host.HowEnded.HowEnded, times.TheConstants.{PATIENCE, UNASKED, UNHEARD, UNSPOKEN, UNUSED}}
+use Rattle.koth_service.specs.{Moment.{Happening, Moment, Start, answered, is_first, moment}}
+use Rattle.koth_service.specs.declared.host.HowEnded.{HowEnded}
 
 abbrev pub Begins : {T : Type 0} → List T → List T → Type 0
 Begins {T} short long = (rest : List T) × (long ≡ short ++ rest)
@@ -27,13 +29,14 @@ IsBeside (Some k) p s = (p ≡ k) ⊎ (s.waits ≡ false)
 
 -- no submission of another peer is under way
 abbrev pub IsAlone : {D : Type 0} → ℕ → Moment D → Type 0
-IsAlone n m = other_than n m.round.fighting ≡ None
+IsAlone n m = without n m.round.under_way ≡ None
 
 -- The peers of which a command may be carried out at this moment: all that are there and have one due. While a
 -- submission is under way, these are its own peer, of which it is the command, and those whose source was not put off.
 abbrev pub MayBeServed : {D : Type 0} → Moment D → ℕ → Type 0
 MayBeServed m p =
-    ((m.sessions p).there ≡ true) × ¬ (HasNothingDue (m.sessions p)) × IsBeside m.round.fighting p (m.sessions p)
+    ((m.sessions p).there ≡ true) × ¬ (HasNothingDue (m.sessions p))
+    × IsBeside (fighting m.round.under_way) p (m.sessions p)
 
 -- It is this peer's turn to have this command carried out: the command is the next one in what came, and came before
 -- any request of a browser; no command ended its session; if the submission of another is under way, the command was
@@ -45,7 +48,7 @@ pub record IsTurn {D : Type 0} (n : ℕ) (command : Command) (m : Moment D) : Ty
   pub in_turn : (reader : Reader)
       → Begins ((m.sessions n).done ++ command ∷ []) (commands_read reader (m.sessions n).came)
   pub goes_on : (m.sessions n).over ≡ None
-  pub beside : IsBeside m.round.fighting n (m.sessions n)
+  pub beside : IsBeside (fighting m.round.under_way) n (m.sessions n)
   pub first : (p : ℕ) → IsAhead m.round.turn p (is_first p m) n (is_first n m) → ¬ (MayBeServed m p)
 
 -- ---- commands that are carried out
@@ -63,23 +66,25 @@ pub record IsSafe {D : Type 0} (facts : DeviceFacts D) (m : Moment D) : Type 0 w
 pub record Answers {D : Type 0} (facts : DeviceFacts D) (n : ℕ) (e : Exchange) (new : Seen D)
     (m : Moment D) : Type 0 where
   pub turn : IsTurn n (command_in e) m
-  pub beside : IsSome (other_than n m.round.fighting) → new ≡ m.now
+  pub beside : IsSome (without n m.round.under_way) → new ≡ m.now
   pub served : AreServed facts m.now new (e ∷ [])
   pub safe : IsSafe facts (answered n e new m)
 
--- A submission of this peer was begun or fought on in its turn, on the hill as it is, and no other is under way: its
--- source gives a warrior. Nothing was answered, and neither the hill nor any image of the device changed.
-pub record Fights {D : Type 0} (n : ℕ) (source : List ℕ) (m : Moment D) : Type 0 where
+-- A submission of this peer was begun or fought on in its turn, on the hill as it is, and no other is under way: it is
+-- that of its source's warrior. It was fought on by the turns that the round has for a step. Nothing was answered, and
+-- neither the hill nor any image of the device changed.
+pub record Fights {D : Type 0} (n : ℕ) (source : List ℕ) (submission : SubmissionParts) (m : Moment D) : Type 0 where
   pub turn : IsTurn n (Command.Submit source) m
   pub alone : IsAlone n m
   pub sound : m.now.reopen ≡ false
-  pub assembled : Assembled m.now source
+  pub assembled : IsOfSource m.now.hill.settings source submission
+  pub further : GoesFurther m.round.shares.turns m.now.hill.settings m.round.under_way submission
 
 -- A source of this peer was put off in its turn, while the submission of another is under way: it gives a warrior, so
 -- it is not refused. Nothing was answered, and neither the hill nor any image of the device changed.
 pub record PutsOff {D : Type 0} (n : ℕ) (source : List ℕ) (m : Moment D) : Type 0 where
   pub turn : IsTurn n (Command.Submit source) m
-  pub beside : IsSome (other_than n m.round.fighting)
+  pub beside : IsSome (without n m.round.under_way)
   pub assembled : Assembled m.now source
 
 -- The device failed in a submission of this peer in its turn, and had failed in none before: each image has what was
@@ -101,13 +106,11 @@ HasNoRoom n command m =
 -- room, or it is a source of which an assembly may spend this number of steps, or memory ran out.
 abbrev pub Stops : {D : Type 0} → ℕ → ℕ → PeerEnd → Moment D → Type 0
 Stops steps n PeerEnd.Quit m = IsTurn n Command.Quit m
-Stops steps n PeerEnd.EndOfInput m = ⊥
-Stops steps n PeerEnd.Limit m = ⊥
 Stops steps n PeerEnd.Unread m = (command : Command) × IsTurn n command m × HasNoRoom n command m
 Stops steps n PeerEnd.StepsSpent m =
     (source : List ℕ) × IsTurn n (Command.Submit source) m × MayBeSpent (Some steps) source
-Stops steps n PeerEnd.StoreFailed m = ⊥
 Stops steps n PeerEnd.Memory m = (command : Command) × IsTurn n command m
+Stops steps n _ m = ⊥
 
 -- if a device is lawful, its hill was opened
 abbrev pub OpensAgain : {D : Type 0} → DeviceFacts D → D → Seen D → Type 0
@@ -234,32 +237,22 @@ MayDisconnect most n how m = ((m.sessions n).there ≡ true) × IsCause most n h
 -- closed for a cause. Each browser is given one answer at most, and what goes out to it is the next of that. It loses
 -- its slot to another only while all are taken.
 abbrev pub Follows : {D : Type 0} → DeviceFacts D → Shows D → Start D → Happening D → Moment D → Type 0
-Follows facts shows start (Happening.On (Noted.Clock t)) m = ⊤
 Follows facts shows start (Happening.On (Noted.Waited t)) m =
     (p : ℕ) → (m.sessions p).shut ≡ false → ¬ (IsSilent p m)
-Follows facts shows start (Happening.On Noted.Arrived) m = ⊤
-Follows facts shows start (Happening.On Noted.Refused) m = ⊤
 Follows facts shows start (Happening.On (Noted.Seated n)) m = ((m.sessions n).there ≡ false) × (n < start.most)
 Follows facts shows start (Happening.On (Noted.Heard n bytes)) m =
     ((m.sessions n).there ≡ true) × (length ((m.sessions n).came ++ bytes) ≤ 16777216)
-Follows facts shows start (Happening.On (Noted.AtEnd n)) m = ⊤
 Follows facts shows start (Happening.On (Noted.Told n bytes)) m =
     Begins ((m.sessions n).went ++ bytes) (m.sessions n).owed
 Follows facts shows start (Happening.On (Noted.Shut n)) m = HasEnded (m.sessions n) × HasAll (m.sessions n)
-Follows facts shows start (Happening.On (Noted.Lost n)) m = ⊤
-Follows facts shows start (Happening.On (Noted.Here n)) m = ⊤
 Follows facts shows start (Happening.On (Noted.Closed n)) m = ⊥
-Follows facts shows start (Happening.On Noted.Called) m = ⊤
-Follows facts shows start (Happening.On Noted.Uncalled) m = ⊤
-Follows facts shows start (Happening.On Noted.TurnedAway) m = ⊤
 Follows facts shows start (Happening.On (Noted.Admitted n)) m = ((m.browsers n).there ≡ false) × (n < start.slots)
-Follows facts shows start (Happening.On (Noted.Requested n bytes)) m = ⊤
 Follows facts shows start (Happening.On (Noted.Shown n bytes)) m =
     Begins ((m.browsers n).went ++ bytes) (owed_by (m.browsers n).reply)
-Follows facts shows start (Happening.On (Noted.Left n)) m = ⊤
+Follows facts shows start (Happening.On _) m = ⊤
 Follows facts shows start (Happening.Answered n e new) m = Answers facts n e new m
 Follows facts shows start (Happening.Stopped n end) m = Stops (shows m.now).steps n end m
-Follows facts shows start (Happening.Stepped n source) m = Fights n source m
+Follows facts shows start (Happening.Stepped n source submission) m = Fights n source submission m
 Follows facts shows start (Happening.PutOff n source) m = PutsOff n source m
 Follows facts shows start (Happening.CutOff n source new) m = Breaks facts n source new m
 Follows facts shows start (Happening.Reopened new) m = Reopens facts new m

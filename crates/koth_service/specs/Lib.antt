@@ -2,8 +2,6 @@
 pub mod Noted
 -- What a browser is answered.
 pub mod Answering
--- Of private contracts alone: what is kept of each peer beside its session, by the numbers of the peers.
-pub mod Seats
 -- How one peer, and one browser, stands in a service.
 pub mod Session
 -- What all peers of a service share: the time, whose turn it is, and the shares of the submission and of browsers.

@@ -1,8 +1,8 @@
 -- What happens in a service: on the sockets, and the commands and answers to browsers in between. And how it stands
 -- then.
 use Rattle.std.specs.Prelude.{ℕ, ◌+◌, ◌==◌, Bool, true, false, if◌then◌else◌, List, [], ◌∷◌, ◌++◌}
-use Rattle.{hill_store.specs.Seen.Seen, koth_session.specs.Transcript.{Exchange, answer, command_in}}
-use Rattle.koth_session.specs.{Peers.goes_first, declared.end.PeerEnd.PeerEnd}
+use Rattle.{hill_store.specs.{Seen.Seen, Submission.SubmissionParts}, koth_session.specs.Transcript.{Exchange, answer, command_in}}
+use Rattle.koth_session.specs.{Judge.fighting, Peers.goes_first, declared.end.PeerEnd.PeerEnd}
 use Rattle.koth_service.specs.{Noted.Noted, Session.{Browser, Session, browser_anew, browser_came}}
 use Rattle.koth_service.specs.Session.{browser_replied, browser_went}
 use Rattle.koth_service.specs.Session.{session_anew, session_answered, session_at_end, session_came, session_lost}
@@ -11,16 +11,16 @@ use Rattle.koth_service.specs.Rounds.{Round, has_share, round_after, round_anew,
 use Rattle.koth_service.specs.Rounds.{round_shown, round_stepped, round_waited, round_waits, round_without}
 use Rattle.koth_service.specs.declared.host.HowEnded.{HowEnded}
 
--- Something happened on the sockets. A command of a peer was carried out, and this is the store then. A command that
--- is due of a peer ended its session. A submission of a peer was begun with this source, or fought on. This source of a
--- peer was put off, while the submission of another was under way. The device failed in a submission of a peer. The
--- hill was opened again. A peer was disconnected for this cause. A browser was given this answer. Or one was
--- disconnected for another, which is given its slot.
+-- Something happened on the sockets. A command of a peer was carried out, and this is the store then. A command that is
+-- due of a peer ended its session. A submission of a peer was begun with this source, or fought on, and is this one
+-- then. This source of a peer was put off, while the submission of another was under way. The device failed in a
+-- submission of a peer. The hill was opened again. A peer was disconnected for this cause. A browser was given this
+-- answer. Or one was disconnected for another, which is given its slot.
 pub data Happening (D : Type 0) : Type 0 where
   On : Noted → Happening D
   Answered : ℕ → Exchange → Seen D → Happening D
   Stopped : ℕ → PeerEnd → Happening D
-  Stepped : ℕ → List ℕ → Happening D
+  Stepped : ℕ → List ℕ → SubmissionParts → Happening D
   PutOff : ℕ → List ℕ → Happening D
   CutOff : ℕ → List ℕ → Seen D → Happening D
   Reopened : Seen D → Happening D
@@ -32,38 +32,15 @@ pub data Happening (D : Type 0) : Type 0 where
 abbrev pub noted : {D : Type 0} → List (Happening D) → List Noted
 noted [] = []
 noted (Happening.On what ∷ older) = what ∷ noted older
-noted (Happening.Answered n e new ∷ older) = noted older
-noted (Happening.Stopped n end ∷ older) = noted older
-noted (Happening.Stepped n source ∷ older) = noted older
-noted (Happening.PutOff n source ∷ older) = noted older
-noted (Happening.CutOff n source new ∷ older) = noted older
-noted (Happening.Reopened new ∷ older) = noted older
 noted (Happening.Disconnected n how ∷ older) = Noted.Closed n ∷ noted older
-noted (Happening.Replied n reply ∷ older) = noted older
 noted (Happening.Displaced n ∷ older) = Noted.Left n ∷ noted older
+noted (_ ∷ older) = noted older
 
 -- how many sessions have ended: as many as sockets of peers were closed
 abbrev pub ended_in : List Noted → ℕ
 ended_in [] = 0
 ended_in (Noted.Closed n ∷ older) = ended_in older + 1
-ended_in (Noted.Clock t ∷ older) = ended_in older
-ended_in (Noted.Waited t ∷ older) = ended_in older
-ended_in (Noted.Arrived ∷ older) = ended_in older
-ended_in (Noted.Refused ∷ older) = ended_in older
-ended_in (Noted.Seated n ∷ older) = ended_in older
-ended_in (Noted.Heard n bytes ∷ older) = ended_in older
-ended_in (Noted.AtEnd n ∷ older) = ended_in older
-ended_in (Noted.Told n bytes ∷ older) = ended_in older
-ended_in (Noted.Shut n ∷ older) = ended_in older
-ended_in (Noted.Lost n ∷ older) = ended_in older
-ended_in (Noted.Here n ∷ older) = ended_in older
-ended_in (Noted.Called ∷ older) = ended_in older
-ended_in (Noted.Uncalled ∷ older) = ended_in older
-ended_in (Noted.TurnedAway ∷ older) = ended_in older
-ended_in (Noted.Admitted n ∷ older) = ended_in older
-ended_in (Noted.Requested n bytes ∷ older) = ended_in older
-ended_in (Noted.Shown n bytes ∷ older) = ended_in older
-ended_in (Noted.Left n ∷ older) = ended_in older
+ended_in (_ ∷ older) = ended_in older
 
 -- ---- how it stands then
 
@@ -98,65 +75,38 @@ instead f n value p = if p == n then value else f p
 
 -- one peer's part, or one browser's, or the round is another, and all else as it was
 abbrev pub with_session : {D : Type 0} → ℕ → Session → Moment D → Moment D
-with_session n session m = record {
-  sessions = instead m.sessions n session;
-  browsers = m.browsers;
-  round = m.round;
-  now = m.now;
-  first = m.first;
-  since = m.since;
-}
+with_session n session m = record m { sessions = instead m.sessions n session }
 
 abbrev pub with_browser : {D : Type 0} → ℕ → Browser → Moment D → Moment D
-with_browser n browser m = record {
-  sessions = m.sessions;
-  browsers = instead m.browsers n browser;
-  round = m.round;
-  now = m.now;
-  first = m.first;
-  since = m.since;
-}
+with_browser n browser m = record m { browsers = instead m.browsers n browser }
 
 abbrev pub with_round : {D : Type 0} → Round → Moment D → Moment D
-with_round round m = record {
-  sessions = m.sessions;
-  browsers = m.browsers;
-  round = round;
-  now = m.now;
-  first = m.first;
-  since = m.since;
-}
+with_round round m = record m { round = round }
 
 -- a peer comes first then: that of the submission that is under way, by its share, or if none is, one whose source was
 -- put off
 abbrev pub is_first : {D : Type 0} → ℕ → Moment D → Bool
-is_first n m = goes_first (has_share m.round) m.round.fighting n (m.sessions n).waits
+is_first n m = goes_first (has_share m.round) (fighting m.round.under_way) n (m.sessions n).waits
 
 -- a command was carried out on the store as it was, and its answer is owed to the peer
 abbrev pub answered : {D : Type 0} → ℕ → Exchange → Seen D → Moment D → Moment D
-answered n e new m = record {
+answered n e new m = record m {
   sessions = instead m.sessions n (session_answered (command_in e) (answer m.now.hill e) m.round.clock (m.sessions n));
-  browsers = m.browsers;
   round = round_after (is_first n m) n m.round;
   now = new;
-  first = m.first;
   since = m.since ++ e ∷ [];
 }
 
 -- a command of a peer ended its session, or the device failed in it: then the store is another
 abbrev pub stopped : {D : Type 0} → ℕ → PeerEnd → Seen D → Moment D → Moment D
-stopped n end new m = record {
+stopped n end new m = record m {
   sessions = instead m.sessions n (session_over end m.round.clock (m.sessions n));
-  browsers = m.browsers;
   round = round_after (is_first n m) n m.round;
   now = new;
-  first = m.first;
-  since = m.since;
 }
 
 abbrev pub reopened : {D : Type 0} → Seen D → Moment D → Moment D
-reopened new m =
-    record { sessions = m.sessions; browsers = m.browsers; round = m.round; now = new; first = new; since = [] }
+reopened new m = record m { now = new; first = new; since = [] }
 
 -- a peer was seated
 abbrev pub seated : {D : Type 0} → ℕ → Moment D → Moment D
@@ -188,7 +138,7 @@ next (Happening.On (Noted.Shown n bytes)) m = with_browser n (browser_went bytes
 next (Happening.On (Noted.Left n)) m = with_browser n (browser_anew false m.round.clock) m
 next (Happening.Answered n e new) m = answered n e new m
 next (Happening.Stopped n end) m = stopped n end m.now m
-next (Happening.Stepped n source) m = with_round (round_stepped (is_first n m) n m.round) m
+next (Happening.Stepped n source submission) m = with_round (round_stepped (is_first n m) n submission m.round) m
 next (Happening.PutOff n source) m =
     with_round (round_passed (is_first n m) n m.round) (with_session n (session_put_off (m.sessions n)) m)
 next (Happening.CutOff n source new) m = stopped n PeerEnd.StoreFailed new m

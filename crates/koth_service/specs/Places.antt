@@ -1,17 +1,12 @@
 -- Of private contracts alone: who may be disconnected for another, and a peer that is gone.
-use Rattle.std.specs.Prelude.{◌≡◌, ◌⊎◌, ⊤, ℕ, ◌<◌, ◌≤◌, nat_le, false, if◌then◌else◌, List, length}
+use Rattle.std.specs.Prelude.{◌≡◌, ◌⊎◌, ⊤, ℕ, ◌<◌, ◌≤◌, false, List, length}
 use Rattle.std.specs.Prelude.{Option, None, Some, IsSome}
 use Rattle.koth_session.specs.Peers.{end_in, is_due_at, is_finished_in, peer_at}
-use Rattle.koth_service.specs.{Noted.{Adds, Noted}, Seats.{IsUnused, seat_at}}
-use Rattle.koth_service.specs.declared.times.TheConstants.{UNSPOKEN, UNUSED}
-use Rattle.koth_service.specs.declared.{arrivals.Place.Place, desk.Desk.Desk, seats.Seat.Seat}
+use Rattle.koth_seats.specs.{Seats.{IsUnused, seat_at}, declared.{times.TheConstants.{UNSPOKEN, UNUSED}, seats.Seat.Seat}}
+use Rattle.koth_service.specs.Noted.{Adds, Noted}
+use Rattle.koth_service.specs.declared.{arrivals.Place.Place, desk.Desk.Desk}
 
 -- ---- who made no use of a place for longest
-
--- of two with their numbers the one that made use of its place longer ago
-abbrev pub longer : Option (ℕ × ℕ) → ℕ → ℕ → Option (ℕ × ℕ)
-longer None n since = Some (n, since)
-longer (Some (k, other)) n since = if nat_le other since then Some (k, other) else Some (n, since)
 
 -- of those that may lose their places this one made use of its own longest ago
 pub record IsLongest (May : ℕ → ℕ → Type 0) (n : ℕ) : Type 0 where

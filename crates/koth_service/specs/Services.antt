@@ -3,7 +3,8 @@ use Rattle.std.specs.Prelude.{◌≡◌, ⊤, ℕ, ◌≤◌, false, List, [], l
 use Rattle.{war_types.specs.declared.settings.RawSettings.RawSettings, sector_disk.specs.Facts.DeviceFacts}
 use Rattle.hill_store.specs.{Holding.IsHolding, Seen.Seen}
 use Rattle.koth_session.specs.{Peers.{first_turn, peer_at}, declared.peers.Step.Step}
-use Rattle.koth_service.specs.{Noted.Noted, Rounds.shares_anew, Seats.seat_at, Moment.{Happening, Start, ended_in, noted}}
+use Rattle.koth_seats.specs.Seats.{seat_at}
+use Rattle.koth_service.specs.{Noted.Noted, Rounds.shares_anew, Moment.{Happening, Start, ended_in, noted}}
 use Rattle.koth_service.specs.{History.{IsHistory, OpensAgain, Shows}, Held.AreHeld, Standing.{peers_of, shares_of}}
 use Rattle.koth_service.specs.declared.desk.Desk.{Desk}
 
@@ -15,26 +16,22 @@ pub record IsReopened {D A : Type 0} (facts : DeviceFacts D) (old new : Desk D A
 
 -- the same sessions, on the same store, or on one that was opened again if the device failed in this step
 abbrev pub IsSoundAfter : {D A : Type 0} → DeviceFacts D → Step → Desk D A → Desk D A → Type 0
-IsSoundAfter facts Step.Nobody old new = new ≡ old
-IsSoundAfter facts (Step.Served n) old new = new ≡ old
-IsSoundAfter facts (Step.Stepped n) old new = new ≡ old
-IsSoundAfter facts (Step.PutOff n) old new = new ≡ old
-IsSoundAfter facts (Step.Asked n) old new = new ≡ old
 IsSoundAfter facts (Step.StoreFailed n) old new = IsReopened facts old new
+IsSoundAfter facts _ old new = new ≡ old
 
 -- the device did not fail in this step
 abbrev pub IsWithoutFault : Step → Type 0
-IsWithoutFault Step.Nobody = ⊤
-IsWithoutFault (Step.Served n) = ⊤
-IsWithoutFault (Step.Stepped n) = ⊤
-IsWithoutFault (Step.PutOff n) = ⊤
-IsWithoutFault (Step.Asked n) = ⊤
 IsWithoutFault (Step.StoreFailed n) = ⊥
+IsWithoutFault _ = ⊤
 
 -- as many sessions have ended as were asked for
 abbrev pub HaveEnded : Option ℕ → ℕ → Type 0
 HaveEnded None ended = ⊥
 HaveEnded (Some connections) ended = connections ≤ ended
+
+-- it ended without a fault once as many sessions had ended as were asked for
+abbrev pub EndsAsAsked : {D T F : Type 0} → Option ℕ → Result T F → List (Happening D) → Type 0
+EndsAsAsked connections result history = IfOk result (λ nothing. HaveEnded connections (ended_in (noted history)))
 
 -- What happened on the sockets, the commands that were carried out and the answers to browsers are a history of this
 -- start. If its store held what some sources earn, the device held at each moment what they and the submissions
@@ -46,7 +43,7 @@ pub record IsServed {S D T F : Type 0} (happened : S → List Noted → Type 0) 
   pub follows : IsHistory facts shows start history
   pub held : (s : RawSettings) (before : List (List ℕ)) → IsHolding facts s before start.store
       → AreHeld facts s before start history
-  pub done : IfOk result (λ nothing. HaveEnded connections (ended_in (noted history)))
+  pub done : EndsAsAsked connections result history
 
 -- if nothing had happened on the sockets before
 abbrev pub ServesPeers : {S D T F : Type 0} → (S → List Noted → Type 0) → DeviceFacts D → Shows D → Start D

@@ -2,7 +2,7 @@
 use Rattle.std.specs.Prelude.{ℕ, Bool, true, false, if◌then◌else◌, List, [], ◌∷◌, ◌++◌}
 use Rattle.std.specs.Prelude.{Option, None, Some}
 use Rattle.{koth_protocol.specs.Commands.Command, koth_session.specs.declared.end.PeerEnd.PeerEnd}
-use Rattle.koth_service.specs.Seats.{has_line}
+use Rattle.koth_seats.specs.Seats.{has_line}
 
 -- For a peer: whether it is there, what came from it, and whether that is at its end; which of its commands were
 -- carried out, and what they were answered; what went out; how a command ended its session, if one did: after that no
@@ -51,139 +51,37 @@ session_anew is now = record {
 
 -- bytes of a peer came
 abbrev pub session_came : List ℕ → ℕ → Session → Session
-session_came bytes now s = record {
-  there = s.there;
-  came = s.came ++ bytes;
-  at_end = s.at_end;
-  done = s.done;
-  owed = s.owed;
-  went = s.went;
-  over = s.over;
-  waits = s.waits;
-  shut = s.shut;
-  lost = s.lost;
-  active = now;
-  useful = if has_line bytes then now else s.useful;
-}
+session_came bytes now s =
+    record s { came = s.came ++ bytes; active = now; useful = if has_line bytes then now else s.useful }
 
 -- no more come
 abbrev pub session_at_end : Session → Session
-session_at_end s = record {
-  there = s.there;
-  came = s.came;
-  at_end = true;
-  done = s.done;
-  owed = s.owed;
-  went = s.went;
-  over = s.over;
-  waits = s.waits;
-  shut = s.shut;
-  lost = s.lost;
-  active = s.active;
-  useful = s.useful;
-}
+session_at_end s = record s { at_end = true }
 
 -- a command of it was carried out, and it is owed the answer
 abbrev pub session_answered : Command → List ℕ → ℕ → Session → Session
-session_answered command reply now s = record {
-  there = s.there;
-  came = s.came;
-  at_end = s.at_end;
-  done = s.done ++ command ∷ [];
-  owed = s.owed ++ reply;
-  went = s.went;
-  over = s.over;
-  waits = false;
-  shut = s.shut;
-  lost = s.lost;
-  active = now;
-  useful = now;
-}
+session_answered command reply now s =
+    record s { done = s.done ++ command ∷ []; owed = s.owed ++ reply; waits = false; active = now; useful = now }
 
 -- a command of it ended the session
 abbrev pub session_over : PeerEnd → ℕ → Session → Session
-session_over end now s = record {
-  there = s.there;
-  came = s.came;
-  at_end = s.at_end;
-  done = s.done;
-  owed = s.owed;
-  went = s.went;
-  over = Some end;
-  waits = false;
-  shut = s.shut;
-  lost = s.lost;
-  active = now;
-  useful = now;
-}
+session_over end now s = record s { over = Some end; waits = false; active = now; useful = now }
 
 -- its source gives a warrior, and waits now
 abbrev pub session_put_off : Session → Session
-session_put_off s = record {
-  there = s.there;
-  came = s.came;
-  at_end = s.at_end;
-  done = s.done;
-  owed = s.owed;
-  went = s.went;
-  over = s.over;
-  waits = true;
-  shut = s.shut;
-  lost = s.lost;
-  active = s.active;
-  useful = s.useful;
-}
+session_put_off s = record s { waits = true }
 
 -- bytes went out to it
 abbrev pub session_went : List ℕ → ℕ → Session → Session
-session_went bytes now s = record {
-  there = s.there;
-  came = s.came;
-  at_end = s.at_end;
-  done = s.done;
-  owed = s.owed;
-  went = s.went ++ bytes;
-  over = s.over;
-  waits = s.waits;
-  shut = s.shut;
-  lost = s.lost;
-  active = now;
-  useful = s.useful;
-}
+session_went bytes now s = record s { went = s.went ++ bytes; active = now }
 
 -- its writing side was shut
 abbrev pub session_shut : Session → Session
-session_shut s = record {
-  there = s.there;
-  came = s.came;
-  at_end = s.at_end;
-  done = s.done;
-  owed = s.owed;
-  went = s.went;
-  over = s.over;
-  waits = s.waits;
-  shut = true;
-  lost = s.lost;
-  active = s.active;
-  useful = s.useful;
-}
+session_shut s = record s { shut = true }
 
 -- the sockets said that it is gone
 abbrev pub session_lost : Session → Session
-session_lost s = record {
-  there = s.there;
-  came = s.came;
-  at_end = s.at_end;
-  done = s.done;
-  owed = s.owed;
-  went = s.went;
-  over = s.over;
-  waits = s.waits;
-  shut = s.shut;
-  lost = true;
-  active = s.active;
-  useful = s.useful;
-}
+session_lost s = record s { lost = true }
 
 -- a browser is there or not, and nothing came of it or went out yet
 abbrev pub browser_anew : Bool → ℕ → Browser
@@ -195,13 +93,10 @@ browser_asks bytes since = record { there = true; came = bytes; reply = None; we
 
 -- bytes of a browser came; it was given its answer; and bytes went out to it
 abbrev pub browser_came : List ℕ → Browser → Browser
-browser_came bytes b =
-    record { there = b.there; came = b.came ++ bytes; reply = b.reply; went = b.went; since = b.since }
+browser_came bytes b = record b { came = b.came ++ bytes }
 
 abbrev pub browser_replied : List ℕ → Browser → Browser
-browser_replied reply b =
-    record { there = b.there; came = b.came; reply = Some reply; went = b.went; since = b.since }
+browser_replied reply b = record b { reply = Some reply }
 
 abbrev pub browser_went : List ℕ → Browser → Browser
-browser_went bytes b =
-    record { there = b.there; came = b.came; reply = b.reply; went = b.went ++ bytes; since = b.since }
+browser_went bytes b = record b { went = b.went ++ bytes }

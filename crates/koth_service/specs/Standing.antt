@@ -3,26 +3,22 @@ use Rattle.std.specs.Prelude.{◌≡◌, ◌⊎◌, ⊤, ℕ, ◌+◌, ◌≤◌
 use Rattle.std.specs.Prelude.{Option, None, Some, IsSome}
 use Rattle.{sector_disk.specs.Facts.DeviceFacts}
 use Rattle.{hill_store.specs.{Seen.Seen}, koth_http.specs.Asked.IsAsked, koth_protocol.specs.Commands.Reader}
-use Rattle.koth_session.specs.{Judge.{Fight, fighting}, Peer.IsPeer, Peers.{IsOfOne, OnlyAt, Slots}}
+use Rattle.koth_session.specs.{Judge.Fight, Peer.IsPeer, Peers.{IsOfOne, OnlyAt, Slots}}
 use Rattle.koth_session.specs.Peers.{is_due_in, peer_at}
 use Rattle.koth_session.specs.declared.{end.PeerEnd.PeerEnd, peer.Peer.Peer, peers.Step.Step, turns.Turn.Turn}
-use Rattle.koth_service.specs.{Noted.Noted, Seats.{IsPatienceOver, OnlySeat, Seats, has_some, seat_at}}
+use Rattle.koth_seats.specs.{Seats.{IsPatienceOver, OnlySeat, Seats, has_some, seat_at}, declared.seats.Seat.Seat}
+use Rattle.koth_service.specs.Noted.{Noted}
 use Rattle.koth_service.specs.{Moment.{Happening, Moment, Start, ended_in, moment, noted}, Rounds.{Round, Shares, shares_at}}
-use Rattle.koth_service.specs.Rounds.{shares_shown, shares_stepped}
+use Rattle.koth_service.specs.Rounds.{shares_shown}
 use Rattle.koth_service.specs.{History.{IsHistory, IsSafe, MayDisconnect, Shows, owed_by}}
 use Rattle.koth_service.specs.{Session.{Browser, Session, browser_asks}, declared.{connections.Stage.Stage, desk.{Desk.Desk, DeskShares.DeskShares}}}
-use Rattle.koth_service.specs.declared.{host.HowEnded.HowEnded, seats.Seat.Seat}
+use Rattle.koth_service.specs.declared.host.HowEnded.{HowEnded}
 
 -- how a command ended a session that ended so: another end comes when all commands were carried out
 abbrev pub over_by : Option PeerEnd → Option PeerEnd
-over_by None = None
-over_by (Some PeerEnd.Quit) = Some PeerEnd.Quit
 over_by (Some PeerEnd.EndOfInput) = None
 over_by (Some PeerEnd.Limit) = None
-over_by (Some PeerEnd.Unread) = Some PeerEnd.Unread
-over_by (Some PeerEnd.StepsSpent) = Some PeerEnd.StepsSpent
-over_by (Some PeerEnd.StoreFailed) = Some PeerEnd.StoreFailed
-over_by (Some PeerEnd.Memory) = Some PeerEnd.Memory
+over_by end = end
 
 -- a peer's session read what came, by any reader, has what is owed and did not go out, and has ended as it did
 pub record Stands {A : Type 0} (s : Session) (peer : Peer A) : Type 0 where
@@ -77,7 +73,12 @@ pub record PeersNow (A : Type 0) : Type 0 where
 
 -- no browser was answered since the time was told last
 abbrev pub shares_of : DeskShares → Shares
-shares_of s = record { stepped_at = s.stepped_at; shown = false; shown_until = s.shown_at + s.took }
+shares_of s = record {
+  stepped_at = s.stepped_at;
+  turns = s.turns;
+  shown = false;
+  shown_until = s.shown_at + s.took;
+}
 
 abbrev pub peers_of : {D A : Type 0} → Desk D A → PeersNow A
 peers_of desk = record {
@@ -93,55 +94,20 @@ peers_of desk = record {
 
 -- with other sessions and seats
 abbrev pub moved_to : {A : Type 0} → Slots A → Seats → PeersNow A → PeersNow A
-moved_to slots seats peers = record {
-  slots = slots;
-  seats = seats;
-  ended = peers.ended;
-  turn = peers.turn;
-  under_way = peers.under_way;
-  clock = peers.clock;
-  read_at = peers.read_at;
-  shares = peers.shares;
-}
+moved_to slots seats peers = record peers { slots = slots; seats = seats }
 
 -- and with these turns
 abbrev pub served_to : {A : Type 0} → Slots A → Seats → Turn → PeersNow A → PeersNow A
-served_to slots seats turn peers = record {
-  slots = slots;
-  seats = seats;
-  ended = peers.ended;
-  turn = turn;
-  under_way = peers.under_way;
-  clock = peers.clock;
-  read_at = peers.read_at;
-  shares = peers.shares;
-}
+served_to slots seats turn peers = record peers { slots = slots; seats = seats; turn = turn }
 
 -- and with this submission under way
 abbrev pub fought_to : {A : Type 0} → Slots A → Seats → Turn → Option Fight → PeersNow A → PeersNow A
-fought_to slots seats turn under_way peers = record {
-  slots = slots;
-  seats = seats;
-  ended = peers.ended;
-  turn = turn;
-  under_way = under_way;
-  clock = peers.clock;
-  read_at = peers.read_at;
-  shares = peers.shares;
-}
+fought_to slots seats turn under_way peers =
+    record peers { slots = slots; seats = seats; turn = turn; under_way = under_way }
 
--- with a step of it just now
-abbrev pub stepped_to : {A : Type 0} → PeersNow A → PeersNow A
-stepped_to peers = record {
-  slots = peers.slots;
-  seats = peers.seats;
-  ended = peers.ended;
-  turn = peers.turn;
-  under_way = peers.under_way;
-  clock = peers.clock;
-  read_at = peers.read_at;
-  shares = shares_stepped peers.clock peers.shares;
-}
+-- with other shares
+abbrev pub shared_to : {A : Type 0} → Shares → PeersNow A → PeersNow A
+shared_to shares peers = record peers { shares = shares }
 
 -- with an answer to a browser since the time was told last, or without
 abbrev pub shares_by : Bool → Shares → Shares
@@ -150,48 +116,22 @@ shares_by true s = shares_shown s
 
 abbrev pub shown_to : {A : Type 0} → Bool → PeersNow A → PeersNow A
 shown_to false peers = peers
-shown_to true peers = record {
-  slots = peers.slots;
-  seats = peers.seats;
-  ended = peers.ended;
-  turn = peers.turn;
-  under_way = peers.under_way;
-  clock = peers.clock;
-  read_at = peers.read_at;
-  shares = shares_shown peers.shares;
-}
+shown_to true peers = record peers { shares = shares_shown peers.shares }
 
 -- at another time, with these shares
 abbrev pub told_to : {A : Type 0} → ℕ → Shares → PeersNow A → PeersNow A
-told_to clock shares peers = record {
-  slots = peers.slots;
-  seats = peers.seats;
-  ended = peers.ended;
-  turn = peers.turn;
-  under_way = peers.under_way;
-  clock = clock;
-  read_at = peers.read_at;
-  shares = shares;
-}
+told_to clock shares peers = record peers { clock = clock; shares = shares }
 
 abbrev pub timed_to : {A : Type 0} → ℕ → ℕ → PeersNow A → PeersNow A
-timed_to clock read_at peers = record {
-  slots = peers.slots;
-  seats = peers.seats;
-  ended = peers.ended;
-  turn = peers.turn;
-  under_way = peers.under_way;
-  clock = clock;
-  read_at = read_at;
-  shares = shares_at peers.clock clock peers.shares;
-}
+timed_to clock read_at peers =
+    record peers { clock = clock; read_at = read_at; shares = shares_at peers.clock clock peers.shares }
 
--- the round has the same times, turns and shares, and the submission of the same peer is under way
+-- the round has the same times, turns and shares, and the same submission is under way
 pub record IsRound {A : Type 0} (round : Round) (peers : PeersNow A) : Type 0 where
   pub clock : round.clock ≡ peers.clock
   pub read_at : round.read_at ≡ peers.read_at
   pub turn : round.turn ≡ peers.turn
-  pub fighting : round.fighting ≡ fighting peers.under_way
+  pub under_way : round.under_way ≡ peers.under_way
   pub shares : round.shares ≡ peers.shares
 
 -- the sessions, the connections and the store are as this history left them, and it is true of the sockets
@@ -254,18 +194,10 @@ KeepsOnArrived happened facts shows sockets desk new_sockets new_desk =
 
 abbrev pub StandsAfter : {S D A : Type 0} → (S → List Noted → Type 0) → DeviceFacts D → Shows D → Step
     → Start D → S → PeersNow A → (ℕ → Option (Stage A)) → Seen D → Type 0
-StandsAfter happened facts shows Step.Nobody start sockets peers browsers store =
-    GoesOn happened facts shows start sockets peers browsers store
-StandsAfter happened facts shows (Step.Served n) start sockets peers browsers store =
-    GoesOn happened facts shows start sockets peers browsers store
-StandsAfter happened facts shows (Step.Stepped n) start sockets peers browsers store =
-    GoesOn happened facts shows start sockets peers browsers store
-StandsAfter happened facts shows (Step.PutOff n) start sockets peers browsers store =
-    GoesOn happened facts shows start sockets peers browsers store
-StandsAfter happened facts shows (Step.Asked n) start sockets peers browsers store =
-    GoesOn happened facts shows start sockets peers browsers store
 StandsAfter happened facts shows (Step.StoreFailed n) start sockets peers browsers store =
     IsCutOff happened facts shows start sockets peers browsers store
+StandsAfter happened facts shows _ start sockets peers browsers store =
+    GoesOn happened facts shows start sockets peers browsers store
 
 -- the service goes on as it did, however the browsers stand, unless the device failed in this step
 abbrev pub KeepsOnBy : {S D A : Type 0} → (S → List Noted → Type 0) → DeviceFacts D → Shows D → Step

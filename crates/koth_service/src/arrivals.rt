@@ -2,14 +2,14 @@
 #![tactic(auto, using(crate::proofs::Told::stays))]
 
 ghost use Rattle.std.specs.Prelude.{◌≡◌, ◌↔◌, ◌+◌, IsTrue, Some};
-ghost use Rattle.koth_service.specs.{Seats.seat_at, Places.{IsLongestUpTo, MayGive, MayLeave, MayLeaveSince}, Standing.{KeepsOn, KeepsOnArrived}, Told.Grows};
+ghost use Rattle.koth_seats.specs.Seats.{seat_at};
+ghost use Rattle.koth_service.specs.{Places.{IsLongestUpTo, MayGive, MayLeave, MayLeaveSince}, Standing.{KeepsOn, KeepsOnArrived}, Told.Grows};
 
 use crate::desk::{Desk, are_enough, let_go};
 use crate::host::{Event, Host, HowEnded};
 use crate::log::LogWrite;
-use crate::places::longer;
-use crate::seats::Seat;
 use crate::sockets::{Arrival, Sockets};
+use koth_seats::{Seat, longer};
 use koth_session::NotConnected;
 use sector_disk::Device;
 use std::alloc::Allocator;

@@ -3,10 +3,9 @@
 ghost use Rattle.std.specs.Prelude.{◌≡◌, ℕ, ◌<◌, None, Some, length, IfOk, IfSome};
 ghost use Rattle.koth_service.specs.Connections.{ComesTo, LosesSlotSince, MayGiveSlot, StaysAt, longer_if, stage_at, stage_in};
 
-use crate::places::{Keeping, longer};
-use crate::times::{ANSWERING, ASKING, DRAIN, UNASKED, UNHEARD};
 use crate::unsent::Unsent;
 use koth_http::Visit;
+use koth_seats::{ANSWERING, ASKING, DRAIN, Keeping, UNASKED, UNHEARD, longer};
 use std::alloc::{AllocError, Allocator};
 use std::net::{IpAddr, SocketAddr};
 

@@ -3,17 +3,17 @@
 
 ghost use Rattle.std.specs.Prelude.{◌≡◌, ◌≢◌, ℕ, ◌+◌, ◌-◌, ◌≤◌, nat_le, length, true, false, None, IfOk};
 ghost use Rattle.koth_session.specs.Peers.{first_turn, peer_at};
-ghost use Rattle.koth_service.specs.{Seats.seat_at, Services.{HaveEnded, IsBegun, start_at, start_of}, Told.Grows};
-ghost use Rattle.koth_service.specs.declared.times.TheConstants.{SHARE};
-ghost use Rattle.koth_service.specs.{Connections.MayShow, Rounds.shares_at, Standing.{LeavesFor, OthersStay, peers_of, shares_by, shares_of}};
+ghost use Rattle.koth_seats.specs.{Seats.seat_at, declared.times.TheConstants.SHARE};
+ghost use Rattle.koth_service.specs.{Services.{HaveEnded, IsBegun, start_at, start_of}, Told.Grows};
+ghost use Rattle.koth_service.specs.{Connections.MayShow, Rounds.{shares_at, shares_stepped, turns_after}, Standing.{LeavesFor, OthersStay, peers_of, shares_by, shares_of}};
 
 use crate::host::{Event, Host, HowEnded};
 use crate::limits::Limits;
 use crate::log::LogWrite;
-use crate::seats::Seats;
 use crate::sockets::Sockets;
-use crate::times::SHARE;
 use hill_store::Store;
+use koth_hill::MOST_TURNS;
+use koth_seats::{LONG_STEP, SHARE, SHORT_STEP, Seats};
 use koth_session::{Judge, Peers};
 use sector_disk::Device;
 use std::alloc::{AllocError, Allocator};
@@ -41,7 +41,9 @@ pub(crate) struct Desk<D: Device, A: Allocator + Copy> {
 #[derive(Clone, Copy, Drop)]
 pub(crate) struct DeskShares {
     /// When a submission was begun or fought on last.
-    pub(crate) stepped_at: u64,
+    stepped_at: u64,
+    /// How many turns its next step has at most.
+    pub(crate) turns: u32,
     /// When a browser was answered last.
     shown_at: u64,
     /// How long that took.
@@ -56,6 +58,14 @@ impl DeskShares {
         now.saturating_sub(self.stepped_at) >= SHARE
     }
 
+    /// A submission was begun or fought on, from `before` until now.
+    pub(crate) fn step(&mut self, before: u64, now: u64)
+        ensures { shares_of self.new ≡ shares_stepped now (now - before) (shares_of self.old) }
+    {
+        self.stepped_at = now;
+        self.turns = turns_after(now.saturating_sub(before), self.turns);
+    }
+
     /// The time is told again, and was `before` until now. Since then a browser was answered or not.
     pub(crate) fn tell(&mut self, has_answered: bool, before: u64, now: u64)
         ensures { shares_of self.new ≡ shares_at before now (shares_by has_answered (shares_of self.old)) }
@@ -64,6 +74,19 @@ impl DeskShares {
             self.shown_at = now;
             self.took = now.saturating_sub(before);
         }
+    }
+}
+
+/// How many turns the next step of a submission has at most, after one that had `turns` and took `took` milliseconds.
+fn turns_after(took: u64, turns: u32) -> u32
+    ensures { result ≡ turns_after took turns }
+{
+    if took > LONG_STEP {
+        (turns / 2).max(1)
+    } else if took < SHORT_STEP {
+        turns.saturating_mul(2).min(MOST_TURNS)
+    } else {
+        turns
     }
 }
 
@@ -145,6 +168,7 @@ impl<D: Device, A: Allocator + Copy> Desk<D, A> {
                 read_at: 0,
                 shares: DeskShares {
                     stepped_at: 0,
+                    turns: MOST_TURNS,
                     shown_at: 0,
                     took: 0,
                 },

@@ -8,8 +8,7 @@
 //! - `host`: who reports what happens, and opens the hill again;
 //! - `log`: an output that takes these reports without waiting;
 //! - `limits`: how many are served;
-//! - `times`, `places` and `seats`: how long a peer is waited for, which place is given to another, and what is kept of each beside its session;
-//! - `desk`: the peers, the store and the seats; `arrivals`, `reading`, `serving`, `sending` and `parting` move one peer on it;
+//! - `desk`: the peers, the store and their seats, of `koth_seats`; `arrivals`, `reading`, `serving`, `sending` and `parting` move one peer on it;
 //! - `unsent`, `connections`, `slots`, `answering`, `moves` and `browsers`: connections of browsers, which of them have slots, what they are
 //!   answered, by `koth_http`, and how that goes out;
 //! - `service`: round after round of them, until as many sessions as are asked for have ended.
@@ -41,25 +40,22 @@ mod limits;
 mod log;
 mod moves;
 mod parting;
-mod places;
 mod reading;
-mod seats;
 mod sending;
 mod service;
 mod serving;
 mod slots;
 mod sockets;
-mod times;
 mod unsent;
 
 pub use host::{Event, Host, HowEnded, WhyUnasked};
+pub use koth_seats::{
+    ANSWERING, ASKING, DRAIN, DRAINED_MOST, PATIENCE, RETRY, SHARE, UNASKED, UNHEARD, UNSPOKEN,
+    UNUSED,
+};
 pub use koth_session::PeerEnd;
 pub use laws::services_in_lives;
 pub use limits::Limits;
 pub use log::LogWrite;
 pub use service::{ServiceFault, serve_peers};
 pub use sockets::{Arrival, Came, Drained, Sockets, Went};
-pub use times::{
-    ANSWERING, ASKING, DRAIN, DRAINED_MOST, PATIENCE, RETRY, SHARE, UNASKED, UNHEARD, UNSPOKEN,
-    UNUSED,
-};

@@ -3,14 +3,14 @@
 
 ghost use Rattle.std.specs.Prelude.{◌≡◌, true, Some, IsSome};
 ghost use Rattle.koth_session.specs.Peers.{end_in, is_finished_in, peer_at};
-ghost use Rattle.koth_service.specs.{Noted.Stays, Seats.seat_at, Standing.{AreAwaited, IsAwaited, KeepsOn, OthersStay}, Told.Grows};
+ghost use Rattle.koth_seats.specs.Seats.{seat_at};
+ghost use Rattle.koth_service.specs.{Noted.Stays, Standing.{AreAwaited, IsAwaited, KeepsOn, OthersStay}, Told.Grows};
 
 use crate::desk::{Desk, let_go};
 use crate::host::{Host, HowEnded};
 use crate::log::LogWrite;
-use crate::seats::{Draining, Seat};
 use crate::sockets::{Drained, Sockets};
-use crate::times::{DRAIN, DRAINED_MOST};
+use koth_seats::{DRAIN, DRAINED_MOST, Draining, Seat};
 use koth_session::PeerEnd;
 use sector_disk::Device;
 use std::alloc::Allocator;

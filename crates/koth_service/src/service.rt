@@ -1,8 +1,9 @@
 //! Round after round.
 #![tactic(auto, using(crate::proofs::Told::stays))]
 
-ghost use Rattle.std.specs.Prelude.{◌≡◌, ℕ, None, false, length, IfOk};
-ghost use Rattle.koth_service.specs.{Connections.{stage_at, AllGoOn}, Services.{IsBegun, IsReopened, IsSoundAfter, IsWithoutFault, ServesPeers, start_at, start_of}, Standing.{AreAwaited, KeepsOn, KeepsOnBy}, Told.Grows};
+ghost use Rattle.std.specs.Prelude.{◌≡◌, ℕ, List, None, false, length, IfOk};
+ghost use Rattle.koth_service.specs.{Connections.{stage_at, AllGoOn}, Held.{HasHistory, IsDurable}, History.IsHistory, Moment.Happening};
+ghost use Rattle.koth_service.specs.{Services.{EndsAsAsked, IsBegun, IsReopened, IsSoundAfter, IsWithoutFault, ServesPeers, start_at, start_of}, Standing.{AreAwaited, KeepsOn, KeepsOnBy}, Told.Grows};
 
 use crate::arrivals::take_arrivals;
 use crate::browsers::{Pass, serve_browsers};
@@ -16,8 +17,8 @@ use crate::reading::read_all;
 use crate::sending::send_all;
 use crate::serving::serve_one;
 use crate::sockets::Sockets;
-use crate::times::RETRY;
 use hill_store::Store;
+use koth_seats::RETRY;
 use koth_session::{Judge, Step};
 use sector_disk::Device;
 use std::alloc::{AllocError, Allocator};
@@ -39,14 +40,16 @@ pub enum ServiceFault<F> {
 
 /// Serves peers and browsers on a hill, as many at once as the limits allow; returns after as many sessions as they name, if they do.
 ///
-/// A peer that connects while all places are taken waits until one is free. The place of a peer that makes no use of it is given to the one
-/// that waits: of those without a command that is due, the one that has gone longest without a whole line, if that is 60 seconds, or 2 if no
-/// byte of it came. A peer is disconnected when its session has ended and its answers went out, 60 seconds after the last byte in or out unless
-/// a command of it is due, as soon as its answers have no room, or at a request of HTTP in place of a command: no command after that is carried
-/// out. If the device fails in a submission, the store is closed, and the host opens the hill again. Submissions are fought one after another,
-/// in steps: between two of these other commands are carried out, and sources of other peers are refused, or put off if they give a warrior.
-/// Beside the peers browsers are served: each is answered one request, with a page of the hill that stands then. `served` speaks of peers and
-/// of browsers.
+/// A peer that connects while all places are taken waits until one is free. The place of a peer that makes no use of it
+/// is given to the one that waits: of those without a command that is due, the one that has gone longest without a
+/// whole line, if that is 60 seconds, or 2 if no byte of it came. A peer is disconnected when its session has ended and
+/// its answers went out, 60 seconds after the last byte in or out unless a command of it is due, as soon as its answers
+/// have no room, or at a request of HTTP in place of a command: no command after that is carried out. If the device
+/// fails in a submission, the store is closed, and the host opens the hill again. Submissions are fought one after
+/// another, in steps: between two of these other commands are carried out, and sources of other peers are refused, or
+/// put off if they give a warrior. Beside the peers browsers are served: each is answered one request, with a page of
+/// the hill that stands then. `history` speaks of peers and of browsers, and `served` says that one history has all
+/// three.
 pub fn serve_peers<S: Sockets, D: Device + Drop, A: Allocator + Copy, H: Host<D, A>, E: LogWrite>(
     alloc: A,
     sockets: &mut S,
@@ -56,7 +59,15 @@ pub fn serve_peers<S: Sockets, D: Device + Drop, A: Allocator + Copy, H: Host<D,
     errors: &mut E,
 ) -> Result<(), ServiceFault<H::Fault>>
     requires { store.reopen ≡ false }
-    ensures served { ServesPeers S.happened D.facts (H.shows host.now) (start_of store limits.peers limits.browsers) limits.connections result sockets.old sockets.new }
+    ensures durability { IsDurable S.happened D.facts (start_of store limits.peers limits.browsers)
+        sockets.old sockets.new }
+    ensures history { HasHistory S.happened
+        (λ history. IsHistory D.facts (H.shows host.now) (start_of store limits.peers limits.browsers) history)
+        sockets.old sockets.new }
+    ensures end { HasHistory S.happened
+        (λ (history : List (Happening D)). EndsAsAsked limits.connections result history) sockets.old sockets.new }
+    ensures served { ServesPeers S.happened D.facts (H.shows host.now) (start_of store limits.peers limits.browsers)
+        limits.connections result sockets.old sockets.new }
     ensures told { Grows (E.contents errors.old) (E.contents errors.new) }
 {
     match Desk::new(alloc, limits, store) {

@@ -11,9 +11,10 @@ use koth_session::Step;
 use sector_disk::Device;
 use std::alloc::Allocator;
 
-/// Carries out one command at most, makes a step of a submission, or puts a source off, and has the host report what a submission was answered.
-/// If the last step of the submission that is under way is `SHARE` milliseconds ago, the next one is made, whoever has the turn. A peer that sent
-/// a request in place of a command is disconnected.
+/// Carries out one command at most, makes a step of a submission, or puts a source off, and has the host report what a
+/// submission was answered. If the last step of the submission that is under way is `SHARE` milliseconds ago, the next
+/// one is made, whoever has the turn. A step has as many turns at most as the ones before it left time for. A peer that
+/// sent a request in place of a command is disconnected.
 pub(crate) fn serve_one<S: Sockets, D: Device, A: Allocator + Copy, H: Host<D, A>, E: LogWrite>(
     desk: &mut Desk<D, A>,
     sockets: &mut S,
@@ -24,12 +25,16 @@ pub(crate) fn serve_one<S: Sockets, D: Device, A: Allocator + Copy, H: Host<D, A
     ensures told { Grows (E.contents errors.old) (E.contents errors.new) }
 {
     let share = desk.shares.has_share(desk.clock);
-    let step = desk.peers.serve_next(share, host.steps(), &mut desk.judge);
+    let before = desk.clock;
+    let turns = desk.shares.turns;
+    let step = desk
+        .peers
+        .serve_next(share, host.steps(), turns, &mut desk.judge);
     desk.clock = desk.clock.max(sockets.now());
     desk.is_busy |= !matches!(step, Step::Nobody);
     match step {
         Step::Nobody => {}
-        Step::Stepped(_) => desk.shares.stepped_at = desk.clock,
+        Step::Stepped(_) => desk.shares.step(before, desk.clock),
         Step::PutOff(_) => {}
         Step::Asked(number) => let_go(desk, sockets, host, errors, number, HowEnded::Browser),
         Step::Served(number) => {

@@ -177,10 +177,10 @@ module _ {D A : Type 0} (n : ℕ) (old : Slots A) (judge : Judged D) (new : Slot
       → IsOfOne now.store.hill.settings new now.under_way
   served_of facts steps outcome busy may moves of = served_at facts steps outcome busy (peer_at old n) may moves.at moves.only of
 
-  stepped_at : (busy : Option ℕ) (slot : Option (Peer A)) → may_serve_in busy n slot ≡ true → Moves (λ p q. IsStepped n p judge q now) slot (peer_at new n)
+  stepped_at : (turns : ℕ) (busy : Option ℕ) (slot : Option (Peer A)) → may_serve_in busy n slot ≡ true → Moves (λ p q. IsStepped turns n p judge q now) slot (peer_at new n)
       → IsOfOne now.store.hill.settings new now.under_way
-  stepped_at busy None may moved = absurd (true≢false (sym may))
-  stepped_at busy (Some peer) may moved =
+  stepped_at turns busy None may moved = absurd (true≢false (sym may))
+  stepped_at turns busy (Some peer) may moved =
       let is = moved.2 in
       let still = sends_still 0 peer moved.0 is.stays (may_serve_now busy n peer may).0 in
       subst (λ (u : Option Fight). IsOfOne now.store.hill.settings new u) (sym is.under_way)
@@ -188,9 +188,9 @@ module _ {D A : Type 0} (n : ℕ) (old : Slots A) (judge : Judged D) (new : Slot
       (subst (λ (s : Option (Peer A)). IsOfPeer judge.store.hill.settings s is.submission) (sym moved.1)
       (still.due, ap is_submission still.met_is ∙ is.submits, subst (λ l. IsOfSource judge.store.hill.settings (kept_source l) is.submission) (sym still.source) is.of_source)))
 
-  pub stepped_of : (busy : Option ℕ) → may_serve_in busy n (peer_at old n) ≡ true → MovesAt (λ p q. IsStepped n p judge q now) n old new
+  pub stepped_of : (turns : ℕ) (busy : Option ℕ) → may_serve_in busy n (peer_at old n) ≡ true → MovesAt (λ p q. IsStepped turns n p judge q now) n old new
       → IsOfOne now.store.hill.settings new now.under_way
-  stepped_of busy may moves = stepped_at busy (peer_at old n) may moves.at
+  stepped_of turns busy may moves = stepped_at turns busy (peer_at old n) may moves.at
 
   put_off_at : (busy : Option ℕ) (slot : Option (Peer A)) → may_serve_in busy n slot ≡ true → Moves (λ p q. IsPutOff n p judge q now) slot (peer_at new n)
       → MovesAt (λ p q. IsPutOff n p judge q now) n old new → IsOfOne judge.store.hill.settings old judge.under_way → IsOfOne now.store.hill.settings new now.under_way
@@ -211,10 +211,10 @@ module _ {D A : Type 0} (facts : DeviceFacts D) (steps : Option ℕ) (n : ℕ) (
   served_beside (Ok outcome) another serves = record { serves = serves; under_way = without_another n under_way another; beside = λ some. refl }
   served_beside (Err why) another serves = tt
 
-  pub put_off_beside : (result : Result (Option PeerEnd) Unanswered) → submits_now peer ≡ true → is_some (without n under_way) ≡ true → IfErr result (λ why. why ≡ Unanswered.PutOff)
+  pub put_off_beside : (turns : ℕ) (result : Result (Option PeerEnd) Unanswered) → submits_now peer ≡ true → is_some (without n under_way) ≡ true → IfErr result (λ why. why ≡ Unanswered.PutOff)
       → IfErr result (λ why. Assembled store (kept_source peer.inbox.script.source)) → IfErr result (λ why. PutsOff peer next)
-      → IfErr result (λ why. IsUnanswered why n peer (judged store under_way) next (judged store under_way))
-  put_off_beside (Ok outcome) submits another why assembled puts = tt
-  put_off_beside (Err other) submits another why assembled puts =
-      subst (λ (w : Unanswered). IsUnanswered w n peer (judged store under_way) next (judged store under_way)) (sym why)
+      → IfErr result (λ why. IsUnanswered turns why n peer (judged store under_way) next (judged store under_way))
+  put_off_beside turns (Ok outcome) submits another why assembled puts = tt
+  put_off_beside turns (Err other) submits another why assembled puts =
+      subst (λ (w : Unanswered). IsUnanswered turns w n peer (judged store under_way) next (judged store under_way)) (sym why)
       (record { submits = submits; another = another; assembled = assembled; puts_off = puts; same = refl })

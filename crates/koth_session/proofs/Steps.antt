@@ -23,10 +23,10 @@ module _ {D : Type 0} (facts : DeviceFacts D) (steps : Option ℕ) where
   same_store PeerEnd.StoreFailed command unsent new store now sound is = absurd (cc)
   same_store PeerEnd.Memory command unsent new store now sound is = is.1
 
-module _ {D A : Type 0} (facts : DeviceFacts D) (steps : Option ℕ) where
+module _ {D A : Type 0} (facts : DeviceFacts D) (steps : Option ℕ) (turns : ℕ) where
   pub serves_next : (share : Bool) (outcome : Option PeerEnd) (n : ℕ) (old : Slots A) (start : Turn) (judge : Judged D) (new : Slots A) (next : Turn) (now : Judged D)
       → ServesOne (λ p q. IsServed facts steps outcome n p judge q now) share n start.submission old start judge new next
-      → ServesNext facts steps share (step_after outcome n) old start judge new next now
+      → ServesNext facts steps turns share (step_after outcome n) old start judge new next now
   serves_next share None n old start judge new next now one = (None, refl, one)
   serves_next share (Some PeerEnd.Quit) n old start judge new next now one = (Some PeerEnd.Quit, refl, one)
   serves_next share (Some PeerEnd.EndOfInput) n old start judge new next now one = (Some PeerEnd.EndOfInput, refl, one)

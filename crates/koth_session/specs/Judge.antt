@@ -35,8 +35,8 @@ without n (Some (k, submission)) = if n == k then None else Some (k, submission)
 abbrev pub IsOfSource : RawSettings → List ℕ → SubmissionParts → Type 0
 IsOfSource settings source submission = assembly settings source ≡ Ok submission.warrior
 
--- a submission was begun, or the one that was under way went on by a step
-abbrev pub GoesFurther : RawSettings → Option Fight → SubmissionParts → Type 0
-GoesFurther settings None new = ⊤
-GoesFurther settings (Some (n, old)) new =
-    (new.warrior ≡ old.warrior) × IsStep settings old.challenge new.challenge
+-- a submission was begun, or the one that was under way went on by a step of `turns` turns at most, or of one round
+abbrev pub GoesFurther : ℕ → RawSettings → Option Fight → SubmissionParts → Type 0
+GoesFurther turns settings None new = ⊤
+GoesFurther turns settings (Some (n, old)) new =
+    (new.warrior ≡ old.warrior) × IsStep turns settings old.challenge new.challenge

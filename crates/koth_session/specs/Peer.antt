@@ -158,11 +158,7 @@ abbrev pub Says : List ℕ → Option PeerEnd → List ℕ → List ℕ → Type
 Says text None unsent new = new ≡ unsent ++ text
 Says text (Some PeerEnd.Unread) unsent new = (1048576 < length unsent + length text) × (new ≡ unsent)
 Says text (Some PeerEnd.Memory) unsent new = (length text ≤ 96 → unsent ≢ []) × (new ≡ unsent)
-Says text (Some PeerEnd.Quit) unsent new = ⊥
-Says text (Some PeerEnd.EndOfInput) unsent new = ⊥
-Says text (Some PeerEnd.Limit) unsent new = ⊥
-Says text (Some PeerEnd.StepsSpent) unsent new = ⊥
-Says text (Some PeerEnd.StoreFailed) unsent new = ⊥
+Says text (Some _) unsent new = ⊥
 
 -- What came of a command: it was carried out on the store, and its answer stands after those that are unsent; or the
 -- session ends. For want of memory it does only at `SHOW`, or while answers are unsent. For want of steps it does only
@@ -174,8 +170,6 @@ AnswersPeer facts steps command None unsent old unsent_new new =
     × (unsent_new ≡ unsent ++ answer old.hill e)
 AnswersPeer facts steps command (Some PeerEnd.Quit) unsent old unsent_new new =
     (command ≡ Command.Quit) × (new ≡ old) × (unsent_new ≡ unsent)
-AnswersPeer facts steps command (Some PeerEnd.EndOfInput) unsent old unsent_new new = ⊥
-AnswersPeer facts steps command (Some PeerEnd.Limit) unsent old unsent_new new = ⊥
 AnswersPeer facts steps command (Some PeerEnd.Unread) unsent old unsent_new new =
     IsFull old.hill command unsent × (new ≡ old) × (unsent_new ≡ unsent)
 AnswersPeer facts steps command (Some PeerEnd.StepsSpent) unsent old unsent_new new =
@@ -186,16 +180,13 @@ AnswersPeer facts steps command (Some PeerEnd.StoreFailed) unsent old unsent_new
     × (unsent_new ≡ unsent)
 AnswersPeer facts steps command (Some PeerEnd.Memory) unsent old unsent_new new =
     ((command ≡ Command.Show) ⊎ (unsent ≢ [])) × (new ≡ old) × (unsent_new ≡ unsent)
+AnswersPeer facts steps command (Some _) unsent old unsent_new new = ⊥
 
 -- for want of a place for the line of a reply, which takes 96 bytes at most, the session ends so
 abbrev pub LacksPlace : PeerEnd → List ℕ → Type 0
-LacksPlace PeerEnd.Quit unsent = ⊥
-LacksPlace PeerEnd.EndOfInput unsent = ⊥
-LacksPlace PeerEnd.Limit unsent = ⊥
 LacksPlace PeerEnd.Unread unsent = 1048576 < length unsent + 96
-LacksPlace PeerEnd.StepsSpent unsent = ⊥
-LacksPlace PeerEnd.StoreFailed unsent = ⊥
 LacksPlace PeerEnd.Memory unsent = unsent ≢ []
+LacksPlace _ unsent = ⊥
 
 -- The line of a reply was put after the answers that are unsent, or the session ends, since the device failed.
 abbrev pub SaysReply : Reply → Option PeerEnd → List ℕ → List ℕ → Type 0

@@ -196,9 +196,9 @@ pub record IsServed {D A : Type 0} (facts : DeviceFacts D) (steps : Option ℕ) 
   pub under_way : new.under_way ≡ without n old.under_way
   pub beside : IsSome new.under_way → new.store ≡ old.store
 
--- A turn of the peer of this number: its submission was begun, or went on by a step, and no other is under way. The
--- peer and the store are the same.
-pub record IsStepped {D A : Type 0} (n : ℕ) (old_peer : Peer A) (old : Judged D) (new_peer : Peer A)
+-- A turn of the peer of this number: its submission was begun, or went on by a step of `turns` turns, and no other is
+-- under way. The peer and the store are the same.
+pub record IsStepped {D A : Type 0} (turns n : ℕ) (old_peer : Peer A) (old : Judged D) (new_peer : Peer A)
     (new : Judged D) : Type 0 where
   pub submits : submits_now old_peer ≡ true
   pub own : without n old.under_way ≡ None
@@ -206,7 +206,7 @@ pub record IsStepped {D A : Type 0} (n : ℕ) (old_peer : Peer A) (old : Judged 
   pub store : new.store ≡ old.store
   pub submission : SubmissionParts
   pub under_way : new.under_way ≡ Some (n, submission)
-  pub further : GoesFurther old.store.hill.settings old.under_way submission
+  pub further : GoesFurther turns old.store.hill.settings old.under_way submission
   pub of_source : IsOfSource old.store.hill.settings (kept_source old_peer.inbox.script.source) submission
 
 -- A turn of the peer of this number while the submission of another is under way: its source gives a warrior, and
@@ -220,10 +220,10 @@ pub record IsPutOff {D A : Type 0} (n : ℕ) (old_peer : Peer A) (old : Judged D
   pub same : new ≡ old
 
 -- A turn of the peer of this number after which its command is still due.
-abbrev pub IsUnanswered : {D A : Type 0} → Unanswered → ℕ → Peer A → Judged D → Peer A → Judged D
+abbrev pub IsUnanswered : {D A : Type 0} → ℕ → Unanswered → ℕ → Peer A → Judged D → Peer A → Judged D
     → Type 0
-IsUnanswered Unanswered.UnderWay n old_peer old new_peer new = IsStepped n old_peer old new_peer new
-IsUnanswered Unanswered.PutOff n old_peer old new_peer new = IsPutOff n old_peer old new_peer new
+IsUnanswered turns Unanswered.UnderWay n old_peer old new_peer new = IsStepped turns n old_peer old new_peer new
+IsUnanswered turns Unanswered.PutOff n old_peer old new_peer new = IsPutOff n old_peer old new_peer new
 
 -- One peer is served: it is the next one, and no browser's request is due of it. The turns go on after it, that of
 -- submissions at this number.
@@ -237,32 +237,26 @@ pub record ServesOne {D A : Type 0} (R : Peer A → Peer A → Type 0) (share : 
 
 -- what a step reports
 abbrev pub step_after : Option PeerEnd → ℕ → Step
-step_after None n = Step.Served n
-step_after (Some PeerEnd.Quit) n = Step.Served n
-step_after (Some PeerEnd.EndOfInput) n = Step.Served n
-step_after (Some PeerEnd.Limit) n = Step.Served n
-step_after (Some PeerEnd.Unread) n = Step.Served n
-step_after (Some PeerEnd.StepsSpent) n = Step.Served n
 step_after (Some PeerEnd.StoreFailed) n = Step.StoreFailed n
-step_after (Some PeerEnd.Memory) n = Step.Served n
+step_after _ n = Step.Served n
 
-abbrev pub ServesNext : {D A : Type 0} → DeviceFacts D → Option ℕ → Bool → Step → Slots A → Turn → Judged D
-    → Slots A → Turn → Judged D → Type 0
-ServesNext facts steps share Step.Nobody old start old_judge new next new_judge =
+abbrev pub ServesNext : {D A : Type 0} → DeviceFacts D → Option ℕ → ℕ → Bool → Step
+    → Slots A → Turn → Judged D → Slots A → Turn → Judged D → Type 0
+ServesNext facts steps turns share Step.Nobody old start old_judge new next new_judge =
     ((p : ℕ) → may_serve_at (fighting old_judge.under_way) old p ≡ false) × (new ≡ old) × (next ≡ start)
     × (new_judge ≡ old_judge)
-ServesNext facts steps share (Step.Served n) old start old_judge new next new_judge =
+ServesNext facts steps turns share (Step.Served n) old start old_judge new next new_judge =
     (outcome : Option PeerEnd) × (step_after outcome n ≡ Step.Served n)
     × ServesOne (λ p q. IsServed facts steps outcome n p old_judge q new_judge) share n start.submission old start
     old_judge new next
-ServesNext facts steps share (Step.Stepped n) old start old_judge new next new_judge =
-    ServesOne (λ p q. IsStepped n p old_judge q new_judge) share n (n + 1) old start old_judge new next
-ServesNext facts steps share (Step.PutOff n) old start old_judge new next new_judge =
+ServesNext facts steps turns share (Step.Stepped n) old start old_judge new next new_judge =
+    ServesOne (λ p q. IsStepped turns n p old_judge q new_judge) share n (n + 1) old start old_judge new next
+ServesNext facts steps turns share (Step.PutOff n) old start old_judge new next new_judge =
     ServesOne (λ p q. IsPutOff n p old_judge q new_judge) share n start.submission old start old_judge new next
-ServesNext facts steps share (Step.Asked n) old start old_judge new next new_judge =
+ServesNext facts steps turns share (Step.Asked n) old start old_judge new next new_judge =
     IsNext share (fighting old_judge.under_way) old start n × (asks_at old n ≡ true) × (new ≡ old)
     × (next ≡ start) × (new_judge ≡ old_judge)
-ServesNext facts steps share (Step.StoreFailed n) old start old_judge new next new_judge =
+ServesNext facts steps turns share (Step.StoreFailed n) old start old_judge new next new_judge =
     ServesOne (λ p q. IsServed facts steps (Some PeerEnd.StoreFailed) n p old_judge q new_judge) share n
     start.submission old start old_judge new next
 

@@ -70,23 +70,26 @@ impl<D: Device, A: Allocator> Judge<D, A> {
 }
 
 impl<D: Device, A: Allocator + Copy> Judge<D, A> {
-    /// Carries out the command that is due of a peer, or a part of its submission: its source is assembled, or as many rounds are played as
-    /// a step of the store has. The last step stores it. While the submission of another is under way, a source is assembled, and waits unless
-    /// it is refused.
+    /// Carries out the command that is due of a peer, or a part of its submission: its source is assembled, or as many
+    /// rounds are played as a step of the store with `turns` turns has. The last step stores it. While the submission
+    /// of another is under way, a source is assembled, and waits unless it is refused.
     pub(crate) fn serve(
         &mut self,
         alloc: A,
         steps: u64,
+        turns: u32,
         number: usize,
         peer: &mut Peer<A>,
     ) -> Result<Option<PeerEnd>, Unanswered>
         requires due { is_due_now peer.old ≡ true }
         ensures served { IsOfIts number peer.old self.old → IfOk result (λ outcome. IsServed D.facts (Some steps) outcome number peer.old self.old peer.new self.new) }
-        ensures unanswered { IsOfIts number peer.old self.old → IfErr result (λ why. IsUnanswered why number peer.old self.old peer.new self.new) }
+        ensures unanswered { IsOfIts number peer.old self.old
+            → IfErr result (λ why. IsUnanswered turns why number peer.old self.old peer.new self.new) }
     {
         serve_at(
             alloc,
             steps,
+            turns,
             number,
             peer,
             &mut self.store,
@@ -132,6 +135,7 @@ fn drop_of<A: Allocator>(number: usize, under_way: &mut Option<(usize, Submissio
 fn serve_at<D: Device, A: Allocator + Copy>(
     alloc: A,
     steps: u64,
+    turns: u32,
     number: usize,
     peer: &mut Peer<A>,
     store: &mut Store<D, A>,
@@ -143,7 +147,8 @@ fn serve_at<D: Device, A: Allocator + Copy>(
     ensures served { IsOfIts number peer.old (judged store.old under_way.old)
         → IfOk result (λ outcome. IsServed D.facts (Some steps) outcome number peer.old (judged store.old under_way.old) peer.new (judged store.new under_way.new)) }
     ensures unanswered { IsOfIts number peer.old (judged store.old under_way.old)
-        → IfErr result (λ why. IsUnanswered why number peer.old (judged store.old under_way.old) peer.new (judged store.new under_way.new)) }
+        → IfErr result (λ why. IsUnanswered turns why number peer.old (judged store.old under_way.old) peer.new
+        (judged store.new under_way.new)) }
 {
     if !peer.submits() {
         return Ok(peer.tell(alloc, store));
@@ -152,7 +157,7 @@ fn serve_at<D: Device, A: Allocator + Copy>(
         return peer.put_off(steps, store);
     }
     match under_way.take() {
-        Some((_, submission)) => fight_on(number, peer, store, under_way, submission),
+        Some((_, submission)) => fight_on(turns, number, peer, store, under_way, submission),
         None => begin(steps, number, peer, store, under_way),
     }
 }
@@ -170,7 +175,9 @@ fn begin<D: Device, A: Allocator + Copy>(
     requires free { under_way.old ≡ None }
     ensures submitting { AreSubmitting store.now under_way.new }
     ensures served { IfOk result (λ outcome. IsServed D.facts (Some steps) outcome number peer.old (judged store.now None) peer.new (judged store.now under_way.new)) }
-    ensures unanswered { IfErr result (λ why. IsUnanswered why number peer.old (judged store.now None) peer.new (judged store.now under_way.new)) }
+    ensures unanswered { (turns : ℕ)
+        → IfErr result (λ why. IsUnanswered turns why number peer.old (judged store.now None) peer.new
+        (judged store.now under_way.new)) }
 {
     match peer.begin(steps, store) {
         Ok(submission) => {
@@ -183,6 +190,7 @@ fn begin<D: Device, A: Allocator + Copy>(
 
 /// Plays on in the submission of a peer, and finishes it once it is judged.
 fn fight_on<D: Device, A: Allocator + Copy>(
+    turns: u32,
     number: usize,
     peer: &mut Peer<A>,
     store: &mut Store<D, A>,
@@ -197,10 +205,11 @@ fn fight_on<D: Device, A: Allocator + Copy>(
     ensures served { (steps : Option ℕ) → IsOfSource store.old.hill.settings (kept_source peer.old.inbox.script.source) submission
         → IfOk result (λ outcome. IsServed D.facts steps outcome number peer.old (judged store.old (Some (number, submission))) peer.new (judged store.new under_way.new)) }
     ensures unanswered { IsOfSource store.old.hill.settings (kept_source peer.old.inbox.script.source) submission
-        → IfErr result (λ why. IsUnanswered why number peer.old (judged store.old (Some (number, submission))) peer.new (judged store.new under_way.new)) }
+        → IfErr result (λ why. IsUnanswered turns why number peer.old (judged store.old (Some (number, submission)))
+        peer.new (judged store.new under_way.new)) }
 {
     let mut submission = submission;
-    match store.step(&mut submission) {
+    match store.step(&mut submission, turns) {
         Some(verdict) => Ok(peer.finish(store, submission, &verdict)),
         None => {
             *under_way = Some((number, submission));

@@ -87,20 +87,23 @@ impl<A: Allocator + Copy> Peers<A> {
         }
     }
 
-    /// Carries out one command at most: that of the first peer to which the turn may come, beginning after the peer served last and going
-    /// round. Of a submission that is to be fought one step is made. While it is under way the turn comes to the others too: a source of theirs
-    /// is refused, or put off. Once it has its share, the step is its own, whoever has the turn. If no submission is under way, that of the first
-    /// source that was put off is begun, from the peer whose submission was the last one and going round. Both leave the turn where it is. A
-    /// browser's request is not carried out, and the turn stays where it is until that peer has left. Nor is a source whose assembly spends these
-    /// steps.
+    /// Carries out one command at most: that of the first peer to which the turn may come, beginning after the peer
+    /// served last and going round. Of a submission that is to be fought one step is made: it has as many rounds as
+    /// have `turns` turns at most, or one. While it is under way the turn comes to the others too: a source of theirs
+    /// is refused, or put off. Once it has its share, the step is its own, whoever has the turn. If no submission is
+    /// under way, that of the first source that was put off is begun, from the peer whose submission was the last one
+    /// and going round. Both leave the turn where it is. A browser's request is not carried out, and the turn stays
+    /// where it is until that peer has left. Nor is a source whose assembly spends these steps.
     pub fn serve_next<D: Device>(
         &mut self,
         has_share: bool,
         steps: u64,
+        turns: u32,
         judge: &mut Judge<D, A>,
     ) -> Step
         ensures serves { IsOfOne judge.old.store.hill.settings self.old.slots.items judge.old.under_way
-            → ServesNext D.facts (Some steps) has_share result self.old.slots.items self.old.next judge.old self.new.slots.items self.new.next judge.new }
+            → ServesNext D.facts (Some steps) turns has_share result self.old.slots.items self.old.next judge.old
+            self.new.slots.items self.new.next judge.new }
         ensures of_one { IsOfOne judge.old.store.hill.settings self.old.slots.items judge.old.under_way
             → IsOfOne judge.new.store.hill.settings self.new.slots.items judge.new.under_way }
     {
@@ -114,7 +117,14 @@ impl<A: Allocator + Copy> Peers<A> {
         }
         let is_first = may_serve(busy, Some(has_share), number, slot);
         self.next = self.next.after(is_first, number + 1);
-        match serve_at(self.alloc, steps, number, &mut self.slots[number], judge) {
+        match serve_at(
+            self.alloc,
+            steps,
+            turns,
+            number,
+            &mut self.slots[number],
+            judge,
+        ) {
             Ok(outcome) => step_after(outcome, number),
             Err(Unanswered::UnderWay) => {
                 self.next.submission = number + 1;
@@ -246,16 +256,18 @@ impl<A: Allocator> Peers<A> {
 fn serve_at<D: Device, A: Allocator + Copy>(
     alloc: A,
     steps: u64,
+    turns: u32,
     number: usize,
     slot: &mut Option<Peer<A>>,
     judge: &mut Judge<D, A>,
 ) -> Result<Option<PeerEnd>, Unanswered>
     requires { may_serve_in (fighting judge.old.under_way) number slot.old ≡ true }
     ensures served { IsOfIn number slot.old judge.old → IfOk result (λ outcome. Moves (λ p q. IsServed D.facts (Some steps) outcome number p judge.old q judge.new) slot.old slot.new) }
-    ensures unanswered { IsOfIn number slot.old judge.old → IfErr result (λ why. Moves (λ p q. IsUnanswered why number p judge.old q judge.new) slot.old slot.new) }
+    ensures unanswered { IsOfIn number slot.old judge.old
+        → IfErr result (λ why. Moves (λ p q. IsUnanswered turns why number p judge.old q judge.new) slot.old slot.new) }
 {
     match slot {
-        Some(peer) => judge.serve(alloc, steps, number, peer),
+        Some(peer) => judge.serve(alloc, steps, turns, number, peer),
         None => unreachable!(),
     }
 }

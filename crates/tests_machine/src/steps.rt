@@ -5,7 +5,7 @@ ghost use Rattle.war_types.specs.Warrior.{Fits};
 
 use crate::expecting::expect_same;
 use crate::making::{hill_of_two, settings_of, warrior};
-use koth_hill::{Challenge, Hill, Verdict};
+use koth_hill::{Challenge, Hill, MOST_TURNS, Verdict};
 use koth_match::Bout;
 use mars_core::Arena;
 use std::alloc::Global;
@@ -27,7 +27,7 @@ fn stepped(
 {
     let mut challenge = Challenge::new(hill);
     for steps in 1..100 {
-        if let Some(verdict) = challenge.step(hill, arena, challenger) {
+        if let Some(verdict) = challenge.step(hill, arena, challenger, MOST_TURNS) {
             return (steps, verdict);
         }
     }

@@ -8,6 +8,9 @@ use std::process::Abort;
 use tests_fixtures::Refusing;
 use tests_stores::opened;
 
+/// The most turns of a step in these tests.
+const TURNS: u32 = 2_000_000;
+
 /// Who judges on a hill of these tests.
 pub(crate) type HillJudge<'m> = Judge<Fuse<'m>, Memory<'m>>;
 
@@ -121,12 +124,17 @@ fn carry_out<'m>(
         Act::Lines(count) => serve_lines(rt, peers, judge, count),
         Act::Steps(steps) => step_on(rt, peers, judge, steps, false),
         Act::StepWithin(most, step) => {
-            expect_same(rt, &peers.serve_next(false, most, judge), &step, "a step");
+            expect_same(
+                rt,
+                &peers.serve_next(false, most, TURNS, judge),
+                &step,
+                "a step",
+            );
         }
         Act::Share(step) => {
             expect_same(
                 rt,
-                &peers.serve_next(true, 1_000_000, judge),
+                &peers.serve_next(true, 1_000_000, TURNS, judge),
                 &step,
                 "a step",
             );
@@ -193,12 +201,12 @@ fn step_on<'m>(
 /// What is served after `most` steps at most of a submission that is under way, and of sources that are put off meanwhile.
 fn served<'m>(peers: &mut Peers<Memory<'m>>, judge: &mut HillJudge<'m>, most: u32) -> Step {
     for _step in 0..most {
-        let found = peers.serve_next(false, 1_000_000, judge);
+        let found = peers.serve_next(false, 1_000_000, TURNS, judge);
         if !matches!(found, Step::Stepped(_) | Step::PutOff(_)) {
             return found;
         }
     }
-    peers.serve_next(false, 1_000_000, judge)
+    peers.serve_next(false, 1_000_000, TURNS, judge)
 }
 
 fn serve_lines<'m>(

@@ -6,7 +6,7 @@ ghost use Rattle.{koth_hill.specs.Kept.{verdict_kept}, hill_store.specs.Submissi
 use crate::expecting::{expect_calls, expect_reply, expect_same, expect_table};
 use crate::hills::{created_on, new_in};
 use hill_store::{Reply, Store, Submission};
-use koth_hill::Verdict;
+use koth_hill::{MOST_TURNS, Verdict};
 use sector_disk::Device;
 use std::alloc::Allocator;
 use std::process::Abort;
@@ -47,7 +47,7 @@ fn judged_beside<D: Device, A: Allocator + Copy>(
 {
     for _step in 0..100 {
         expect_table(rt, store, rows);
-        if let Some(verdict) = store.step(submission) {
+        if let Some(verdict) = store.step(submission, MOST_TURNS) {
             return verdict;
         }
     }
@@ -61,7 +61,7 @@ fn given_up<D: Device, A: Allocator + Copy>(
     source: &[u8],
 ) {
     let mut submission = begun(rt, store, source);
-    drop(store.step(&mut submission));
+    drop(store.step(&mut submission, MOST_TURNS));
     drop(submission);
 }
 
@@ -94,7 +94,7 @@ fn expect_parts<M: TestMemory>(rt: &impl Abort, memory: M) {
 fn expect_first<M: TestMemory>(rt: &impl Abort, memory: M, store: &mut Store<M::Device, M>) {
     let mut submission = begun(rt, store, b"MOV 0,1");
     memory.refuse(0, u64::MAX);
-    let reply = match store.step(&mut submission) {
+    let reply = match store.step(&mut submission, MOST_TURNS) {
         Some(verdict) => store.finish(submission, &verdict),
         None => panic!(rt; "there is nobody to fight"),
     };

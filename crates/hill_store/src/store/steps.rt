@@ -35,19 +35,19 @@ impl<D: Device, A: Allocator + Copy> Store<D, A> {
         Some(Ok(Submission { warrior, challenge }))
     }
 
-    /// Plays on in a submission that this hill has under way, as a step of its challenge does. The verdict comes once all its
-    /// matches are fought.
-    pub fn step(&mut self, submission: &mut Submission<A>) -> Option<Verdict>
+    /// Plays on in a submission that this hill has under way, as a step of its challenge with `turns` turns does. The verdict comes once all
+    /// its matches are fought. It doesn't depend on `turns`.
+    pub fn step(&mut self, submission: &mut Submission<A>, turns: u32) -> Option<Verdict>
         requires { IsSubmitting self.old submission.old }
         ensures submitting { IsSubmitting self.old submission.new }
         ensures warrior { submission.new.warrior ≡ submission.old.warrior }
-        ensures rounds { result ≡ None → IsStep self.old.hill.settings submission.old.challenge submission.new.challenge }
+        ensures rounds { result ≡ None → IsStep turns self.old.hill.settings submission.old.challenge submission.new.challenge }
         ensures last { IfSome result (λ judged. judged ≡ verdict_kept self.old.hill submission.old.warrior) }
         ensures unchanged { self.new ≡ self.old }
     {
         submission
             .challenge
-            .step(&self.hill, &mut self.arena, &submission.warrior)
+            .step(&self.hill, &mut self.arena, &submission.warrior, turns)
     }
 
     /// Finishes a submission to this hill that was judged so. The reply comes once that is durable.

@@ -1,5 +1,6 @@
 -- One peer more.
-use Rattle.{std.proofs.Common.{arith, ◌∙◌, ◌≤◌, Some, length, sym}, koth_service.specs.{Places.{IsLongestUpTo, MayLeaveSince}, Seats.seat_at}}
+use Rattle.koth_seats.specs.Seats.{seat_at}
+use Rattle.{std.proofs.Common.{arith, ◌∙◌, ◌≤◌, Some, length, sym}, koth_service.specs.Places.{IsLongestUpTo, MayLeaveSince}}
 use Rattle.koth_service.proofs.Longest.{full_to, is_longest, none_yet, within_seats}
 use Rattle.koth_service.proofs.arrivals.place_for_one.Goals as goal
 

@@ -1,5 +1,6 @@
 -- More was thrown away, or the peer is disconnected as its session ended.
-use Rattle.{koth_session.specs.Peers.peer_at, koth_service.specs.{Seats.seat_at, Moment.moment, Standing.peers_of, declared.host.HowEnded.HowEnded}}
+use Rattle.koth_seats.specs.Seats.{seat_at}
+use Rattle.{koth_session.specs.Peers.peer_at, koth_service.specs.{Moment.moment, Standing.peers_of, declared.host.HowEnded.HowEnded}}
 use Rattle.koth_service.proofs.{Causes.by_end, Steps.{drained, still_may}}
 use Rattle.koth_service.proofs.Told
 use Rattle.koth_service.proofs.parting.drain_on.Goals as goal

@@ -1,6 +1,7 @@
 -- The peer is disconnected for a cause.
 use Rattle.{std.proofs.Common.{Some, ◌∙◌, ap, subst, sym}, koth_session.specs.Peers.peer_at}
-use Rattle.koth_service.{specs.{Seats.seat_at, Moment.moment, Standing.{StandsAt, peers_of}}, proofs.Causes.{by_unread, silent}}
+use Rattle.koth_seats.specs.Seats.{seat_at}
+use Rattle.koth_service.{specs.{Moment.moment, Standing.{StandsAt, peers_of}}, proofs.Causes.{by_unread, silent}}
 use Rattle.koth_service.proofs.parting.part.Goals as goal
 
 pub returns-in-Some-Unread-clause-served : goal.returns-in-Some-Unread-clause-served

@@ -1,5 +1,6 @@
 -- It isn't known to be gone, or it is disconnected.
-use Rattle.{std.proofs.Common.{◌∙◌, ap, is_some, sym}, koth_session.specs.Peers.peer_at, koth_service.specs.{Noted.{Adds, Noted}, Seats.seat_at, Moment.moment, Standing.peers_of}}
+use Rattle.koth_seats.specs.Seats.{seat_at}
+use Rattle.{std.proofs.Common.{◌∙◌, ap, is_some, sym}, koth_session.specs.Peers.peer_at, koth_service.specs.{Noted.{Adds, Noted}, Moment.moment, Standing.peers_of}}
 use Rattle.koth_service.proofs.{Looking.{here, there_by_seat}, Steps.lost}
 use Rattle.koth_service.proofs.reading.look_at.Goals as goal
 

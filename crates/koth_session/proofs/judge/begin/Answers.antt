@@ -3,7 +3,7 @@ use Rattle.{std.proofs.Common.refl}
 use Rattle.koth_session.proofs.judge.begin.Goals as goal
 
 pub returns-in-Ok-clause-unanswered : goal.returns-in-Ok-clause-unanswered
-returns-in-Ok-clause-unanswered g c = record {
+returns-in-Ok-clause-unanswered g c = λ turns. record {
   submits = c.requires.submits;
   own = refl;
   stays = c.in-Ok.ensures.stays;

@@ -17,7 +17,7 @@ returns-then-is_anothers-clause-served g c = λ its.
 
 pub returns-then-is_anothers-clause-unanswered : goal.returns-then-is_anothers-clause-unanswered
 returns-then-is_anothers-clause-unanswered g c = λ its.
-    put_off_beside g.D.Device.facts (Some c.args.steps) c.args.number c.args.peer.now c.put_off.new.self c.args.store.now c.args.under_way.now c.put_off.result
+    put_off_beside g.D.Device.facts (Some c.args.steps) c.args.number c.args.peer.now c.put_off.new.self c.args.store.now c.args.under_way.now c.args.turns c.put_off.result
     (sym c.submits.ensures ∙ c.if-not-submits.false) (sym c.is_anothers.ensures ∙ c.if-is_anothers.true) c.put_off.ensures.put_off c.put_off.ensures.assembled c.put_off.ensures.puts_off
 
 pub fight_on-requires-clause-submitting : goal.fight_on-requires-clause-submitting
@@ -33,7 +33,7 @@ returns-in-Some-clause-served g c = λ its.
 pub returns-in-Some-clause-unanswered : goal.returns-in-Some-clause-unanswered
 returns-in-Some-clause-unanswered g c = λ its.
     let own = own_is c.args.number c.in-Some.field-0-0 c.args.under_way.now c.in-Some.submission (sym c.take.ensures.value ∙ c.in-Some.is) (sym c.is_anothers.ensures ∙ c.if-is_anothers.false) in
-    subst (λ (u : _). IfErr c.fight_on.result (λ why. IsUnanswered why c.args.number c.args.peer.now (judged c.args.store.now u) c.fight_on.new.peer
+    subst (λ (u : _). IfErr c.fight_on.result (λ why. IsUnanswered c.args.turns why c.args.number c.args.peer.now (judged c.args.store.now u) c.fight_on.new.peer
     (judged c.fight_on.new.store c.fight_on.new.under_way))) (sym own) (c.fight_on.ensures.unanswered (its c.in-Some.submission own).1)
 
 pub returns-in-None-clause-served : goal.returns-in-None-clause-served
@@ -43,5 +43,5 @@ returns-in-None-clause-served g c = λ its.
 
 pub returns-in-None-clause-unanswered : goal.returns-in-None-clause-unanswered
 returns-in-None-clause-unanswered g c = λ its.
-    subst (λ (u : _). IfErr c.begin.result (λ why. IsUnanswered why c.args.number c.args.peer.now (judged c.args.store.now u) c.begin.new.peer
-    (judged c.args.store.now c.begin.new.under_way))) (sym (sym c.take.ensures.value ∙ c.in-None.is)) c.begin.ensures.unanswered
+    subst (λ (u : _). IfErr c.begin.result (λ why. IsUnanswered c.args.turns why c.args.number c.args.peer.now (judged c.args.store.now u) c.begin.new.peer
+    (judged c.args.store.now c.begin.new.under_way))) (sym (sym c.take.ensures.value ∙ c.in-None.is)) (c.begin.ensures.unanswered c.args.turns)

@@ -3,7 +3,7 @@ use Rattle.koth_hill.proofs.challenge.Challenge.step.Goals as goal
 
 pub returns-in-Some-clause-under_way : goal.returns-in-Some-clause-under_way
 returns-in-Some-clause-under_way g c =
-    under_way_still c.args.hill.now c.args.challenger.now c.args.self.now c.fight_on.new.self c.in-Some.member c.member-in-Some.inside.warrior.now c.settings.result.now c.as_slice.result.now
+    under_way_still c.args.turns c.args.hill.now c.args.challenger.now c.args.self.now c.fight_on.new.self c.in-Some.member c.member-in-Some.inside.warrior.now c.settings.result.now c.as_slice.result.now
     c.in-Some.ensures.hill c.settings.ensures.value (ap (λ (m : Member). m.warrior) c.member-in-Some.view_is) c.as_slice.ensures.value c.in-Some.ensures.value
     c.requires.under_way c.fight_on.ensures.fought
 

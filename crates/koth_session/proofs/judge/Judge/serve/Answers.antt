@@ -15,5 +15,5 @@ returns-clause-served g c =
 
 pub returns-clause-unanswered : goal.returns-clause-unanswered
 returns-clause-unanswered g c =
-    subst (λ (j : Judged _). IsOfIts c.args.number c.args.peer.now j → IfErr c.serve_at.result (λ why. IsUnanswered why c.args.number c.args.peer.now j c.serve_at.new.peer
+    subst (λ (j : Judged _). IsOfIts c.args.number c.args.peer.now j → IfErr c.serve_at.result (λ why. IsUnanswered c.args.turns why c.args.number c.args.peer.now j c.serve_at.new.peer
     (judged c.serve_at.new.store c.serve_at.new.under_way))) c.self.view_is c.serve_at.ensures.unanswered

@@ -37,7 +37,7 @@ returns-in-Ok-clause-serves g c = λ of.
     let after : c.after-self.result ≡ turn_after (goes_first_at share busy slots n) (n + 1) start.submission start =
     c.after-self.ensures ∙ ap (λ b. turn_after b (n + 1) start.submission start) comes in
     let moves = moves_written (λ p q. IsServed g.D.Device.facts (Some c.args.steps) c.in-Ok.outcome n p judge q now) n slots c.index_mut.result.now slot first.within c.index_mut.ensures.value (c.in-Ok.ensures.served its) in
-    rw c.step_after.ensures (serves_next g.D.Device.facts (Some c.args.steps) share c.in-Ok.outcome n slots start judge (set slots n slot) c.after-self.result now
+    rw c.step_after.ensures (serves_next g.D.Device.facts (Some c.args.steps) c.args.turns share c.in-Ok.outcome n slots start judge (set slots n slot) c.after-self.result now
     (record { first = first; taken = taken; moves = moves; next_is = after }))
 
 pub returns-in-Ok-clause-of_one : goal.returns-in-Ok-clause-of_one
@@ -79,7 +79,7 @@ returns-in-Err-UnderWay-clause-serves g c = λ of.
     ∙ sought_first share busy n (get_or slots n None) first.due in
     let after : c.after-self.result ≡ turn_after (goes_first_at share busy slots n) (n + 1) start.submission start =
     c.after-self.ensures ∙ ap (λ b. turn_after b (n + 1) start.submission start) comes in
-    let moves = moves_written (λ p q. IsStepped n p judge q now) n slots c.index_mut.result.now slot first.within c.index_mut.ensures.value (rw c.in-Err-UnderWay.field-0-is at (c.in-Err-UnderWay.ensures.unanswered its)) in
+    let moves = moves_written (λ p q. IsStepped c.args.turns n p judge q now) n slots c.index_mut.result.now slot first.within c.index_mut.ensures.value (rw c.in-Err-UnderWay.field-0-is at (c.in-Err-UnderWay.ensures.unanswered its)) in
     record { first = first; taken = taken; moves = moves; next_is = ap (λ (t : Turn). record { command = t.command; submission = n + 1 }) after }
 
 pub returns-in-Err-UnderWay-clause-of_one : goal.returns-in-Err-UnderWay-clause-of_one
@@ -96,8 +96,8 @@ returns-in-Err-UnderWay-clause-of_one g c = λ of.
     subst (λ b. IsNext share b slots start n) c.busy-busy.ensures (subst (λ s. IsNext share c.busy-busy.result s start n) c.as_slice.ensures.value c.in-Some.ensures) in
     let its : IsOfIn n c.index_mut.result.now judge =
     subst (λ s. IsOfIn n s judge) (sym (get_or_read slots n c.index_mut.result.now first.within c.index_mut.ensures.value None)) (of_in n slots judge of) in
-    let moves = moves_written (λ p q. IsStepped n p judge q now) n slots c.index_mut.result.now slot first.within c.index_mut.ensures.value (rw c.in-Err-UnderWay.field-0-is at (c.in-Err-UnderWay.ensures.unanswered its)) in
-    stepped_of n slots judge (set slots n slot) now busy first.due moves
+    let moves = moves_written (λ p q. IsStepped c.args.turns n p judge q now) n slots c.index_mut.result.now slot first.within c.index_mut.ensures.value (rw c.in-Err-UnderWay.field-0-is at (c.in-Err-UnderWay.ensures.unanswered its)) in
+    stepped_of n slots judge (set slots n slot) now c.args.turns busy first.due moves
 
 pub returns-in-Err-PutOff-clause-serves : goal.returns-in-Err-PutOff-clause-serves
 returns-in-Err-PutOff-clause-serves g c = λ of.

@@ -1,20 +1,20 @@
 //! Places that are given to others: of those that may lose theirs the one that made no use of it for longest.
 
 ghost use Rattle.std.specs.Prelude.{◌≡◌, ◌↔◌, IsTrue};
-ghost use Rattle.koth_service.specs.{Places.longer, Seats.IsUnused};
+ghost use Rattle.koth_seats.specs.Seats.{longer, IsUnused};
 
 /// How long a place is kept while another waits, in milliseconds.
 #[derive(Clone, Copy)]
-pub(crate) struct Keeping {
+pub struct Keeping {
     /// If no byte came.
-    pub(crate) unspoken: u64,
+    pub unspoken: u64,
     /// If bytes came.
-    pub(crate) unused: u64,
+    pub unused: u64,
 }
 
 impl Keeping {
     /// Whether a place of which no use was made since this time may be given to another.
-    pub(crate) fn is_over(self, now: u64, has_spoken: bool, since: u64) -> bool
+    pub fn is_over(self, now: u64, has_spoken: bool, since: u64) -> bool
         ensures { IsTrue result ↔ IsUnused self.unspoken self.unused now has_spoken since }
     {
         let passed = now.saturating_sub(since);
@@ -22,7 +22,7 @@ impl Keeping {
     }
 
     /// Milliseconds until it may be given to another; `unused` if it may be already.
-    pub(crate) fn until(self, now: u64, has_spoken: bool, since: u64) -> u64 {
+    pub fn until(self, now: u64, has_spoken: bool, since: u64) -> u64 {
         let most = if has_spoken {
             self.unused
         } else {
@@ -36,11 +36,7 @@ impl Keeping {
 }
 
 /// Of two with their numbers the one that made use of its place longer ago.
-pub(crate) fn longer(
-    longest: Option<(usize, u64)>,
-    number: usize,
-    since: u64,
-) -> Option<(usize, u64)>
+pub fn longer(longest: Option<(usize, u64)>, number: usize, since: u64) -> Option<(usize, u64)>
     ensures { result ≡ longer longest number since }
 {
     match longest {

@@ -1,20 +1,8 @@
 //! What is kept of each peer beside its session. Times are in milliseconds, by the clock of the sockets.
 
 ghost use Rattle.std.specs.Prelude.{◌≡◌, ◌↔◌, ◌-◌, ◌≤◌, ◌<◌, ℕ, IsTrue, IfOk, None, Some, length, option_copied};
-ghost use Rattle.koth_service.specs.Seats.{
-  seat_at,
-  seat_drained,
-  seat_heard,
-  seat_map,
-  seat_new,
-  seat_served,
-  seat_told,
-  IsPatienceOver,
-  IsUnused,
-  OnlySeat,
-  SeatMoves,
-};
-ghost use Rattle.koth_service.specs.declared.times.TheConstants.{UNSPOKEN, UNUSED};
+ghost use Rattle.koth_seats.specs.Seats.{seat_at, seat_drained, seat_heard, seat_map, seat_new, seat_served, seat_told, IsPatienceOver, IsUnused, OnlySeat, SeatMoves};
+ghost use Rattle.koth_seats.specs.declared.times.TheConstants.{UNSPOKEN, UNUSED};
 
 use crate::places::Keeping;
 use crate::times::{DRAIN, PATIENCE, UNSPOKEN, UNUSED};
@@ -29,37 +17,37 @@ const PLACES: Keeping = Keeping {
 
 /// What is known of a peer.
 #[derive(Clone, Copy)]
-pub(crate) struct Seat {
-    pub(crate) address: SocketAddr,
+pub struct Seat {
+    pub address: SocketAddr,
     /// When it was seated, a byte of it came or went, or a command of it was carried out, whichever was last.
-    pub(crate) active: u64,
+    pub active: u64,
     /// When it was seated, a whole line of it came, or a command of it was carried out, whichever was last.
-    pub(crate) useful: u64,
+    pub useful: u64,
     /// Whether a byte of it came.
-    pub(crate) has_spoken: bool,
+    pub has_spoken: bool,
     /// What is thrown away, if the writing side is shut.
-    pub(crate) draining: Option<Draining>,
+    pub draining: Option<Draining>,
 }
 
 /// What still comes of a peer whose writing side is shut.
 #[derive(Clone, Copy)]
-pub(crate) struct Draining {
+pub struct Draining {
     /// When the writing side was shut.
-    pub(crate) since: u64,
+    pub since: u64,
     /// How many bytes were thrown away.
-    pub(crate) count: usize,
+    pub count: usize,
 }
 
 impl Seat {
     /// Whether no byte came or went, and no command was carried out, for as long as a peer may be silent.
-    pub(crate) fn is_patience_over(&self, now: u64) -> bool
+    pub fn is_patience_over(&self, now: u64) -> bool
         ensures { IsTrue result ↔ IsPatienceOver now self.now.active }
     {
         now.saturating_sub(self.active) >= PATIENCE
     }
 
     /// Whether the peer may be disconnected for another, if no command of it is due.
-    pub(crate) fn is_unused(&self, now: u64) -> bool
+    pub fn is_unused(&self, now: u64) -> bool
         ensures { IsTrue result ↔ IsUnused UNSPOKEN UNUSED now self.now.has_spoken self.now.useful }
     {
         PLACES.is_over(now, self.has_spoken, self.useful)
@@ -82,13 +70,13 @@ impl Seat {
 
 /// Seats by the numbers of the peers.
 #[derive(Drop)]
-pub(crate) struct Seats<A: Allocator> {
+pub struct Seats<A: Allocator> {
     seats: Vec<Option<Seat>, A>,
 }
 
 impl<A: Allocator> Seats<A> {
     /// `most` free seats. `AllocError` comes if the growth of memory is refused.
-    pub(crate) fn new(alloc: A, most: usize) -> Result<Seats<A>, AllocError>
+    pub fn new(alloc: A, most: usize) -> Result<Seats<A>, AllocError>
         ensures free { IfOk result (λ seats. (p : ℕ) → seat_at seats.seats.items p ≡ None) }
         ensures most { IfOk result (λ seats. length seats.seats.items ≡ most) }
     {
@@ -98,14 +86,14 @@ impl<A: Allocator> Seats<A> {
     }
 
     /// How many seats there are.
-    pub(crate) fn len(&self) -> usize
+    pub fn len(&self) -> usize
         ensures { result ≡ length self.now.seats.items }
     {
         self.seats.len()
     }
 
     /// The seat of this number, if a peer has it.
-    pub(crate) fn at(&self, number: usize) -> Option<Seat>
+    pub fn at(&self, number: usize) -> Option<Seat>
         ensures { result ≡ seat_at self.now.seats.items number }
     {
         if number < self.seats.len() {
@@ -116,7 +104,7 @@ impl<A: Allocator> Seats<A> {
     }
 
     /// How many peers have an address of this host.
-    pub(crate) fn count_of(&self, host: IpAddr) -> u32 {
+    pub fn count_of(&self, host: IpAddr) -> u32 {
         let mut count: u32 = 0;
         for seat in &self.seats {
             if let Some(seat) = seat {
@@ -129,7 +117,7 @@ impl<A: Allocator> Seats<A> {
     }
 
     /// Puts a peer on a seat, if there is one of this number.
-    pub(crate) fn sit(&mut self, number: usize, address: SocketAddr, now: u64)
+    pub fn sit(&mut self, number: usize, address: SocketAddr, now: u64)
         ensures only { OnlySeat number self.old.seats.items self.new.seats.items }
         ensures at { number < length self.old.seats.items → seat_at self.new.seats.items number ≡ Some (seat_new address now) }
     {
@@ -145,7 +133,7 @@ impl<A: Allocator> Seats<A> {
     }
 
     /// The seat is free.
-    pub(crate) fn leave(&mut self, number: usize)
+    pub fn leave(&mut self, number: usize)
         ensures only { OnlySeat number self.old.seats.items self.new.seats.items }
         ensures at { seat_at self.new.seats.items number ≡ None }
     {
@@ -155,7 +143,7 @@ impl<A: Allocator> Seats<A> {
     }
 
     /// These bytes of this peer came.
-    pub(crate) fn hear(&mut self, number: usize, bytes: &[u8], now: u64)
+    pub fn hear(&mut self, number: usize, bytes: &[u8], now: u64)
         ensures { SeatMoves (seat_heard bytes.now now) number self.old.seats.items self.new.seats.items }
     {
         if number < self.seats.len() {
@@ -164,7 +152,7 @@ impl<A: Allocator> Seats<A> {
     }
 
     /// Answers went out to this peer.
-    pub(crate) fn tell(&mut self, number: usize, now: u64)
+    pub fn tell(&mut self, number: usize, now: u64)
         ensures { SeatMoves (seat_told now) number self.old.seats.items self.new.seats.items }
     {
         if number < self.seats.len() {
@@ -173,7 +161,7 @@ impl<A: Allocator> Seats<A> {
     }
 
     /// A command of this peer was carried out, or ended its session.
-    pub(crate) fn serve(&mut self, number: usize, now: u64)
+    pub fn serve(&mut self, number: usize, now: u64)
         ensures { SeatMoves (seat_served now) number self.old.seats.items self.new.seats.items }
     {
         if number < self.seats.len() {
@@ -182,7 +170,7 @@ impl<A: Allocator> Seats<A> {
     }
 
     /// What still comes of this peer is thrown away.
-    pub(crate) fn drain(&mut self, number: usize, draining: Draining)
+    pub fn drain(&mut self, number: usize, draining: Draining)
         ensures { SeatMoves (seat_drained draining) number self.old.seats.items self.new.seats.items }
     {
         if number < self.seats.len() {
@@ -192,7 +180,7 @@ impl<A: Allocator> Seats<A> {
 
     /// Milliseconds until the first peer has been waited for as long as it may be, and no more than a peer may be silent. If no seat is free,
     /// it is no longer than until the first peer may be disconnected for another.
-    pub(crate) fn until(&self, now: u64) -> u64 {
+    pub fn until(&self, now: u64) -> u64 {
         let mut least = PATIENCE;
         let mut first_unused = PATIENCE;
         let mut is_full = true;

@@ -33,3 +33,9 @@ pub const ANSWERING: u64 = 60_000;
 
 /// How long others are served at most until a submission that is under way has its next step.
 pub const SHARE: u64 = 20;
+
+/// How long a step of a submission may take: one that took longer is followed by one of half as many turns.
+pub const LONG_STEP: u64 = 25;
+
+/// How long a step takes at least that isn't followed by one of twice as many turns.
+pub const SHORT_STEP: u64 = 10;

@@ -1,10 +1,10 @@
--- Of private contracts alone: what is kept of each peer beside its session, by the numbers of the peers.
+-- What is kept of each peer beside its session, by the numbers of the peers, and for how long.
 use Rattle.std.specs.Prelude.{◌≡◌, ◌≢◌, ◌⊎◌, ℕ, ◌-◌, ◌≤◌, ◌==◌, ◌||◌, Bool}
-use Rattle.std.specs.Prelude.{false, not, if◌then◌else◌, List, length, Option, None, Some, slice_index_or}
+use Rattle.std.specs.Prelude.{false, nat_le, not, if◌then◌else◌, List, length, Option, None, Some, slice_index_or}
 use Rattle.std.specs.List.{list_any}
 use Rattle.std.specs.declared.net.socket_addr.SocketAddr.{SocketAddr}
-use Rattle.koth_service.specs.declared.seats.{Draining.Draining, Seat.Seat}
-use Rattle.koth_service.specs.declared.times.TheConstants.{PATIENCE}
+use Rattle.koth_seats.specs.declared.seats.{Draining.Draining, Seat.Seat}
+use Rattle.koth_seats.specs.declared.times.TheConstants.{PATIENCE}
 
 abbrev pub Seats : Type 0
 Seats = List (Option Seat)
@@ -28,33 +28,23 @@ seat_new address now = record { address = address; active = now; useful = now; h
 
 -- bytes of the peer came
 abbrev pub seat_heard : List ℕ → ℕ → Seat → Seat
-seat_heard bytes now s = record {
-  address = s.address;
+seat_heard bytes now s = record s {
   active = now;
   useful = if has_line bytes then now else s.useful;
   has_spoken = s.has_spoken || has_some bytes;
-  draining = s.draining;
 }
 
 -- answers went out to it
 abbrev pub seat_told : ℕ → Seat → Seat
-seat_told now s =
-    record { address = s.address; active = now; useful = s.useful; has_spoken = s.has_spoken; draining = s.draining }
+seat_told now s = record s { active = now }
 
 -- a command of it was carried out, or ended its session
 abbrev pub seat_served : ℕ → Seat → Seat
-seat_served now s =
-    record { address = s.address; active = now; useful = now; has_spoken = s.has_spoken; draining = s.draining }
+seat_served now s = record s { active = now; useful = now }
 
 -- what still comes of it is thrown away
 abbrev pub seat_drained : Draining → Seat → Seat
-seat_drained draining s = record {
-  address = s.address;
-  active = s.active;
-  useful = s.useful;
-  has_spoken = s.has_spoken;
-  draining = Some draining;
-}
+seat_drained draining s = record s { draining = Some draining }
 
 abbrev pub seat_map : (Seat → Seat) → Option Seat → Option Seat
 seat_map f None = None
@@ -79,3 +69,8 @@ IsPatienceOver now active = PATIENCE ≤ now - active
 abbrev pub IsUnused : ℕ → ℕ → ℕ → Bool → ℕ → Type 0
 IsUnused unspoken unused now has_spoken since =
     ((has_spoken ≡ false) × (unspoken ≤ now - since)) ⊎ (unused ≤ now - since)
+
+-- of two with their numbers the one that made use of its place longer ago
+abbrev pub longer : Option (ℕ × ℕ) → ℕ → ℕ → Option (ℕ × ℕ)
+longer None n since = Some (n, since)
+longer (Some (k, other)) n since = if nat_le other since then Some (k, other) else Some (n, since)
