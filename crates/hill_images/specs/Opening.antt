@@ -64,7 +64,8 @@ IsUnfaulted facts old new Refusal.Damaged = facts.faults new ≡ facts.faults ol
 
 -- ---- a hill is written to a device that held none
 
--- an image after that, if the device failed in it: one that was there before, one without a hill, or one that reads as this hill
+-- an image after that, if the device failed in it: one that was there before, one without a hill, or one that reads as
+-- this hill
 abbrev pub MayHold : Disk → ℕ → Kept → (ℕ → List ℕ) → Type 0
 MayHold old size hill image = IsImage old image ⊎ (HoldsNone image ⊎ Reads size image hill)
 

@@ -1,4 +1,5 @@
--- Which hill an image stands for. Each of these is said of every layout; the words without `In` are said of the new one, in which hills are written.
+-- Which hill an image stands for. Each of these is said of every layout; the words without `In` are said of the new
+-- one, in which hills are written.
 use Rattle.std.specs.Prelude.{◌≡◌, ℕ, ◌+◌, ◌-◌, ◌%◌, ◌≤◌, List, [], ◌∷◌, map, get_or}
 use Rattle.{war_types.specs.declared.settings.RawSettings.RawSettings, koth_match.specs.declared.bout.Bout.Bout, koth_hill.specs.{Hill.{Member, Hill}, Kept.{Kept, rows_with, fought}}}
 use Rattle.sector_disk.specs.Disk.{Disk, current, IsSettled}
@@ -41,7 +42,8 @@ slots_of es = map (λ e. e.slot) es
 abbrev pub results_read : Layout → ℕ → (ℕ → List ℕ) → List HeaderEntry → List (List Bout)
 results_read layout rounds image es = rows_with (result_read layout rounds image) [] (slots_of es)
 
--- the header is the newest, and with the slots that it names it gives the hill and what is kept of its matches, true or not
+-- the header is the newest, and with the slots that it names it gives the hill and what is kept of its matches, true or
+-- not
 pub record ShowsIn (layout : Layout) (image : ℕ → List ℕ) (h : HeaderParts) (hill : Kept) : Type 0 where
   pub newest : IsNewestIn layout image h
   pub settings : h.settings ≡ hill.settings
@@ -55,8 +57,8 @@ pub record ReadsIn (layout : Layout) (size : ℕ) (image : ℕ → List ℕ) (hi
   pub shows : ShowsIn layout image header hill
   pub room : sectors_in layout hill.settings.capacity ≤ size
 
--- An image of a device of `size` sectors stands for the hill: it reads as that hill with every pair fought again, so each result is that of
--- the match.
+-- An image of a device of `size` sectors stands for the hill: it reads as that hill with every pair fought again, so
+-- each result is that of the match.
 abbrev pub StandsIn : Layout → ℕ → (ℕ → List ℕ) → Hill → Type 0
 StandsIn layout size image hill = ReadsIn layout size image (fought hill)
 

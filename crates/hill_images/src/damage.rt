@@ -15,7 +15,8 @@ use std::alloc::Allocator;
 /// What a header begins with.
 const BEGINNING: [u8; 8] = *b"KOTHHIL2";
 
-/// Whether one of these, the first two sectors of a hill, is a header, and the other one begins as a header does and is none.
+/// Whether one of these, the first two sectors of a hill, is a header, and the other one begins as a header does and is
+/// none.
 pub fn loses_header(even: &[u8; 512], odd: &[u8; 512]) -> bool
     ensures { IsTrue result ↔ LosesHeader even.now odd.now }
 {
@@ -34,9 +35,10 @@ fn is_lost_at(n: u32, bytes: &[u8; 512]) -> bool
     bytes[..8] == BEGINNING[..] && !is_header_at(n, bytes)
 }
 
-/// The entry of the first warrior on the hill of a device, in the order in which they entered, whose slot holds no warrior of that hill.
-/// `None` if each slot holds one. It can't be known, with `NotAHill`, if there is no header, with `TooSmall` if the device has fewer sectors than
-/// the hill, with `Disk` if the device fails, and with `Memory` if memory runs out. Nothing is written.
+/// The entry of the first warrior on the hill of a device, in the order in which they entered, whose slot holds no
+/// warrior of that hill. `None` if each slot holds one. It can't be known, with `NotAHill`, if there is no header, with
+/// `TooSmall` if the device has fewer sectors than the hill, with `Disk` if the device fails, and with `Memory` if
+/// memory runs out. Nothing is written.
 pub fn first_damaged<D: Device, A: Allocator + Copy>(
     alloc: A,
     device: &mut D,

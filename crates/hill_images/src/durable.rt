@@ -9,8 +9,8 @@ use sector_disk::{Device, Fault};
 use std::alloc::Allocator;
 use war_types::Warrior;
 
-/// Places a warrior: the sectors of its slot, with the results of its matches by the older warriors' slots, and only when these have
-/// reached the disk the header that names it.
+/// Places a warrior: the sectors of its slot, with the results of its matches by the older warriors' slots, and only
+/// when these have reached the disk the header that names it.
 pub fn place<D: Device, A: Allocator>(
     device: &mut D,
     header: &Header,
@@ -21,7 +21,9 @@ pub fn place<D: Device, A: Allocator>(
     requires { sectors_for slot ≤ D.facts.size device.old }
     ensures served { IsServed D.facts device.old device.new result }
     ensures titled { IsTitled warrior.now }
-    ensures changes { D.facts.lawful device.old → Changes (places new_layout header.now slot warrior.now results.now) (D.facts.disk device.old) (D.facts.disk device.new) result }
+    ensures changes { D.facts.lawful device.old
+        → Changes (places new_layout header.now slot warrior.now results.now) (D.facts.disk device.old)
+        (D.facts.disk device.new) result }
 {
     write_slot(device, slot, &Slot::encode(warrior, results))?;
     device.sync()?;
@@ -34,7 +36,8 @@ pub fn place<D: Device, A: Allocator>(
 pub fn commit<D: Device>(device: &mut D, header: &Header) -> Result<(), Fault>
     requires { 2 ≤ D.facts.size device.old }
     ensures served { IsServed D.facts device.old device.new result }
-    ensures changes { D.facts.lawful device.old → Changes (commits new_layout header.now) (D.facts.disk device.old) (D.facts.disk device.new) result }
+    ensures changes { D.facts.lawful device.old
+        → Changes (commits new_layout header.now) (D.facts.disk device.old) (D.facts.disk device.new) result }
 {
     let sector = (header.generation() % 2) as u32;
     device.write(sector, &encode_header(header))?;

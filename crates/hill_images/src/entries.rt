@@ -76,7 +76,8 @@ impl Entries {
     }
 }
 
-/// The header after a warrior that stays, in a slot that was free: the one that falls goes, and the others are one older.
+/// The header after a warrior that stays, in a slot that was free: the one that falls goes, and the others are one
+/// older.
 pub fn header_placed(header: &Header, falls: Option<u64>, slot: u8) -> Header
     requires { IsHeaderParts (header_placed header.now falls slot) }
     ensures { result ≡ header_placed header.now falls slot }
@@ -152,7 +153,8 @@ fn has_slot(slot: u8, entries: &[HeaderEntry]) -> bool
     false
 }
 
-/// The results of a challenger's matches with the warriors of these entries, by their slots. The places of the other slots are zero.
+/// The results of a challenger's matches with the warriors of these entries, by their slots. The places of the other
+/// slots are zero.
 pub fn results_by_slot(entries: &[HeaderEntry], bouts: &[Bout]) -> [Wins; RESULTS]
     requires slots { All (λ e. e.slot ≤ 20) entries.now }
     requires each { length bouts.now ≡ length entries.now }

@@ -15,7 +15,8 @@ pub(crate) fn newest_header<D: Device>(
     requires { 2 ≤ D.facts.size device.old }
     ensures served { IsServed D.facts device.old device.new result }
     ensures kept { D.facts.lawful device.old → D.facts.disk device.new ≡ D.facts.disk device.old }
-    ensures found { D.facts.lawful device.old → IfOk result (IsNewestFound (layout_of format) (current (D.facts.disk device.old))) }
+    ensures found { D.facts.lawful device.old
+        → IfOk result (IsNewestFound (layout_of format) (current (D.facts.disk device.old))) }
 {
     let even = read_header(device, format, 0)?;
     let odd = read_header(device, format, 1)?;
@@ -49,7 +50,8 @@ fn read_header<D: Device>(device: &mut D, format: Format, n: u32) -> Result<Opti
     requires { n < D.facts.size device.old }
     ensures served { IsServed D.facts device.old device.new result }
     ensures kept { D.facts.lawful device.old → D.facts.disk device.new ≡ D.facts.disk device.old }
-    ensures found { D.facts.lawful device.old → IfOk result (IsFoundIn (layout_of format) n (current (D.facts.disk device.old) n)) }
+    ensures found { D.facts.lawful device.old
+        → IfOk result (IsFoundIn (layout_of format) n (current (D.facts.disk device.old) n)) }
 {
     let mut bytes = [0; 512];
     device.read(n, &mut bytes)?;
@@ -84,7 +86,8 @@ pub(crate) fn valid_header(format: Format, n: u32, bytes: &[u8; 512]) -> Option<
 }
 
 fn of_parity(format: Format, n: u32, header: Header) -> Option<Header>
-    ensures { (bytes : List ℕ) → IsHeader (layout_of format) bytes header → IsFoundIn (layout_of format) n bytes result }
+    ensures { (bytes : List ℕ) → IsHeader (layout_of format) bytes header
+        → IsFoundIn (layout_of format) n bytes result }
 {
     if header.generation() % 2 == u64::from(n) {
         Some(header)
@@ -95,7 +98,8 @@ fn of_parity(format: Format, n: u32, header: Header) -> Option<Header>
 
 /// Of two headers of a format that were found, the one of greater generation.
 fn newer(even: Option<Header>, odd: Option<Header>) -> Option<Header>
-    ensures { (layout : Layout) (image : ℕ → List ℕ) → IsFoundIn layout 0 (image 0) even → IsFoundIn layout 1 (image 1) odd
+    ensures { (layout : Layout) (image : ℕ → List ℕ) → IsFoundIn layout 0 (image 0) even
+        → IsFoundIn layout 1 (image 1) odd
         → IsNewestFound layout image result }
 {
     match (even, odd) {
@@ -106,7 +110,8 @@ fn newer(even: Option<Header>, odd: Option<Header>) -> Option<Header>
 }
 
 fn later(even: Header, odd: Header) -> Header
-    ensures { (layout : Layout) (image : ℕ → List ℕ) → IsFoundIn layout 0 (image 0) (Some even) → IsFoundIn layout 1 (image 1) (Some odd)
+    ensures { (layout : Layout) (image : ℕ → List ℕ) → IsFoundIn layout 0 (image 0) (Some even)
+        → IsFoundIn layout 1 (image 1) (Some odd)
         → IsNewestIn layout image result }
 {
     if even.generation() < odd.generation() {

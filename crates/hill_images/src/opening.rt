@@ -19,8 +19,10 @@ use std::alloc::{AllocError, Allocator};
 fn settled_header<D: Device>(device: &mut D, format: Format) -> Result<Option<Header>, Fault>
     requires { 2 ≤ D.facts.size device.old }
     ensures served { IsServed D.facts device.old device.new result }
-    ensures settled { D.facts.lawful device.old → Changes (synced ∷ []) (D.facts.disk device.old) (D.facts.disk device.new) result }
-    ensures found { D.facts.lawful device.old → IfOk result (IsNewestFound (layout_of format) (current (D.facts.disk device.old))) }
+    ensures settled { D.facts.lawful device.old
+        → Changes (synced ∷ []) (D.facts.disk device.old) (D.facts.disk device.new) result }
+    ensures found { D.facts.lawful device.old
+        → IfOk result (IsNewestFound (layout_of format) (current (D.facts.disk device.old))) }
 {
     device.sync()?;
     let found = newest_header(device, format)?;
@@ -44,7 +46,8 @@ pub fn recover<D: Device, A: Allocator + Copy>(
     ensures kept { IsKept D.facts device.old device.new }
     ensures faultless { OnOk result (D.facts.faults device.new ≡ D.facts.faults device.old) }
     ensures small { D.facts.size device.old < 2 → (result ≡ Err Refusal.TooSmall) × (device.new ≡ device.old) }
-    ensures found { IfOk result (λ r. IsRecovered (layout_of format) D.facts device.old device.new r.header r.hill r.arena.settings) }
+    ensures found { IfOk result (λ r. IsRecovered
+        (layout_of format) D.facts device.old device.new r.header r.hill r.arena.settings) }
     ensures refused { IfErr result (IsNotOpenedIn (layout_of format) D.facts device.old device.new) }
     ensures unfaulted { IfErr result (IsUnfaulted D.facts device.old device.new) }
 {
@@ -69,7 +72,8 @@ fn recover_hill<D: Device, A: Allocator + Copy>(
     ensures kept { IsKept D.facts device.old device.new }
     ensures same { D.facts.lawful device.old → D.facts.disk device.new ≡ D.facts.disk device.old }
     ensures faultless { OnOk result (D.facts.faults device.new ≡ D.facts.faults device.old) }
-    ensures found { IfOk result (λ r. IsHillFound (layout_of format) D.facts device.old header r.header r.hill r.arena.settings) }
+    ensures found { IfOk result (λ r. IsHillFound
+        (layout_of format) D.facts device.old header r.header r.hill r.arena.settings) }
     ensures refused { IfErr result (HillRefused (layout_of format) D.facts device.old device.new header) }
     ensures unfaulted { IfErr result (IsUnfaulted D.facts device.old device.new) }
 {

@@ -14,7 +14,7 @@ use sector_disk::{Device, Fault};
 use std::alloc::{AllocError, Allocator};
 use war_types::{Settings, Warrior};
 
-/// Why a warrior was not read, and so the hill that it stands on.
+/// Why a warrior was not read, and so the hill that it is on.
 #[derive(Clone, Copy, PartialEq, Eq)]
 pub(crate) enum Unread {
     /// The device failed.
@@ -44,7 +44,7 @@ const NO_ROUNDS: Bout = Bout {
     ties: 0,
 };
 
-/// Reads the hill of a header, with the results that stand in the slots.
+/// Reads the hill of a header, with the results that are in the slots.
 pub(crate) fn read_hill<D: Device, A: Allocator + Copy>(
     alloc: A,
     device: &mut D,
@@ -58,7 +58,8 @@ pub(crate) fn read_hill<D: Device, A: Allocator + Copy>(
     ensures faultless { OnOk result (D.facts.faults device.new ≡ D.facts.faults device.old) }
     ensures read { IfOk result (HillRead (layout_of format) D.facts device.old header.now) }
     ensures unread { IfErr result (HillNotRead (layout_of format) D.facts device.old device.new header.now) }
-    ensures unfaulted { IfErr result (λ unread. unread ≡ Unread.Damaged → D.facts.faults device.new ≡ D.facts.faults device.old) }
+    ensures unfaulted { IfErr result (λ unread. unread ≡ Unread.Damaged
+        → D.facts.faults device.new ≡ D.facts.faults device.old) }
 {
     let settings = *header.settings();
     let entries = header.entries();
@@ -79,12 +80,13 @@ pub(crate) fn read_hill<D: Device, A: Allocator + Copy>(
     Ok(hill)
 }
 
-/// The results with the warriors of these entries, which stand by their slots: rounds that nobody won were ties.
+/// The results with the warriors of these entries, which are by their slots: rounds that no one won were ties.
 fn bouts_with(results: &[Wins; RESULTS], older: &[HeaderEntry], rounds: u16) -> [Bout; OTHERS]
     requires few { length older.now ≤ 20 }
     requires slots { All (λ e. e.slot ≤ 20) older.now }
     requires rounds { FitRounds rounds results.now }
-    ensures value { take (length older.now) result ≡ map (λ e. bout_of rounds (get_or results.now e.slot no_wins)) older.now }
+    ensures value { take (length older.now) result
+        ≡ map (λ e. bout_of rounds (get_or results.now e.slot no_wins)) older.now }
     ensures len { length result ≡ 20 }
 {
     let mut bouts = [NO_ROUNDS; OTHERS];
@@ -129,10 +131,12 @@ pub(crate) fn read_warrior<D: Device, A: Allocator + Copy>(
     ensures fits { IfOk result (λ held. Fits settings.now held.warrior) }
     ensures rounds { IfOk result (λ held. FitRounds settings.now.rounds held.results) }
     ensures len { IfOk result (λ held. length held.results ≡ 21) }
-    ensures read { IfOk result (λ held. WarriorRead (layout_of format) D.facts device.old settings.now slot held.warrior) }
+    ensures read { IfOk result (λ held. WarriorRead
+        (layout_of format) D.facts device.old settings.now slot held.warrior) }
     ensures results { IfOk result (λ held. ResultsRead (layout_of format) D.facts device.old slot held.results) }
     ensures unread { IfErr result (WarriorNotRead (layout_of format) D.facts device.old device.new settings.now slot) }
-    ensures unfaulted { IfErr result (λ unread. unread ≡ Unread.Damaged → D.facts.faults device.new ≡ D.facts.faults device.old) }
+    ensures unfaulted { IfErr result (λ unread. unread ≡ Unread.Damaged
+        → D.facts.faults device.new ≡ D.facts.faults device.old) }
 {
     let content = match read_slot(device, format, slot) {
         Ok(content) => content,

@@ -35,7 +35,9 @@ fn slot_at(format: Format, slot: u8) -> u32
 pub(crate) fn write_slot<D: Device>(device: &mut D, slot: u8, content: &Slot) -> Result<(), Fault>
     requires { sectors_for slot ≤ D.facts.size device.old }
     ensures served { IsServed D.facts device.old device.new result }
-    ensures changes { D.facts.lawful device.old → Changes (writes_from (slot_at new_layout slot) content.now.sectors) (D.facts.disk device.old) (D.facts.disk device.new) result }
+    ensures changes { D.facts.lawful device.old
+        → Changes (writes_from (slot_at new_layout slot) content.now.sectors) (D.facts.disk device.old)
+        (D.facts.disk device.new) result }
 {
     let at = slot_at(Format::New, slot);
     for n in 0..SECTORS {
@@ -50,7 +52,8 @@ pub(crate) fn read_slot<D: Device>(device: &mut D, format: Format, slot: u8) -> 
     ensures served { IsServed D.facts device.old device.new result }
     ensures same { D.facts.lawful device.old → D.facts.disk device.new ≡ D.facts.disk device.old }
     ensures read { D.facts.lawful device.old
-        → IfOk result (λ s. HoldsSame (layout_of format) s.sectors (slot_in (layout_of format) (current (D.facts.disk device.old)) slot)) }
+        → IfOk result (λ s. HoldsSame (layout_of format) s.sectors
+        (slot_in (layout_of format) (current (D.facts.disk device.old)) slot)) }
 {
     match format {
         Format::Old => read_old_slot(device, slot),
@@ -62,7 +65,8 @@ fn read_new_slot<D: Device>(device: &mut D, slot: u8) -> Result<Slot, Fault>
     requires { sectors_for slot ≤ D.facts.size device.old }
     ensures served { IsServed D.facts device.old device.new result }
     ensures same { D.facts.lawful device.old → D.facts.disk device.new ≡ D.facts.disk device.old }
-    ensures read { D.facts.lawful device.old → IfOk result (λ s. s.sectors ≡ slot_in new_layout (current (D.facts.disk device.old)) slot) }
+    ensures read { D.facts.lawful device.old
+        → IfOk result (λ s. s.sectors ≡ slot_in new_layout (current (D.facts.disk device.old)) slot) }
 {
     let at = slot_at(Format::New, slot);
     let mut content = Slot::blank();
@@ -77,7 +81,8 @@ fn read_old_slot<D: Device>(device: &mut D, slot: u8) -> Result<Slot, Fault>
     ensures served { IsServed D.facts device.old device.new result }
     ensures same { D.facts.lawful device.old → D.facts.disk device.new ≡ D.facts.disk device.old }
     ensures read { D.facts.lawful device.old
-        → IfOk result (λ s. HoldsSame old_layout s.sectors (slot_in old_layout (current (D.facts.disk device.old)) slot)) }
+        → IfOk result (λ s. HoldsSame old_layout s.sectors
+        (slot_in old_layout (current (D.facts.disk device.old)) slot)) }
 {
     let at = slot_at(Format::Old, slot);
     let mut first = [0; 512];

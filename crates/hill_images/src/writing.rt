@@ -32,8 +32,8 @@ pub fn write_first<D: Device>(device: &mut D, settings: Settings) -> Result<Head
     }
 }
 
-/// Writes the hill of a header to a device that holds none: the slots of its warriors, with the results of their matches, and only when
-/// these have reached the disk the header.
+/// Writes the hill of a header to a device that holds none: the slots of its warriors, with the results of their
+/// matches, and only when these have reached the disk the header.
 pub fn write_hill<D: Device, A: Allocator>(
     device: &mut D,
     header: &Header,
@@ -58,7 +58,8 @@ pub fn write_hill<D: Device, A: Allocator>(
 fn settled_and_holds<D: Device>(device: &mut D) -> Result<bool, Fault>
     requires { 2 ≤ D.facts.size device.old }
     ensures served { IsServed D.facts device.old device.new result }
-    ensures settled { D.facts.lawful device.old → Changes (synced ∷ []) (D.facts.disk device.old) (D.facts.disk device.new) result }
+    ensures settled { D.facts.lawful device.old
+        → Changes (synced ∷ []) (D.facts.disk device.old) (D.facts.disk device.new) result }
     ensures found { D.facts.lawful device.old → IfOk result (HoldsOneIf (current (D.facts.disk device.old))) }
 {
     device.sync()?;
@@ -72,7 +73,8 @@ fn commit_first<D: Device>(device: &mut D, settings: Settings) -> Result<Header,
     ensures faultless { OnOk result (D.facts.faults device.new ≡ D.facts.faults device.old) }
     ensures header { IfOk result (λ header. header ≡ first_header settings) }
     ensures cause { IfErr result (λ why. (why ≡ Refusal.Disk) × Failed D.facts device.old device.new) }
-    ensures put { D.facts.lawful device.old → IsSettled (D.facts.disk device.old) → HoldsNone (current (D.facts.disk device.old))
+    ensures put { D.facts.lawful device.old → IsSettled (D.facts.disk device.old)
+        → HoldsNone (current (D.facts.disk device.old))
         → IsPut D.facts (first_header settings) (new_kept settings 0) device.new result }
     ensures settings { AreSettings settings }
 {
@@ -95,7 +97,8 @@ fn put_or_refuse<D: Device, A: Allocator>(
     ensures kept { IsKept D.facts device.old device.new }
     ensures faultless { OnOk result (D.facts.faults device.new ≡ D.facts.faults device.old) }
     ensures cause { IfErr result (λ why. (why ≡ Refusal.Disk) × Failed D.facts device.old device.new) }
-    ensures put { D.facts.lawful device.old → IsSettled (D.facts.disk device.old) → HoldsNone (current (D.facts.disk device.old))
+    ensures put { D.facts.lawful device.old → IsSettled (D.facts.disk device.old)
+        → HoldsNone (current (D.facts.disk device.old))
         → IsPut D.facts header.now hill.now device.new result }
 {
     match put_hill(device, header, hill) {
@@ -113,7 +116,8 @@ fn put_hill<D: Device, A: Allocator>(
     requires size { sectors_for header.now.settings.capacity ≤ D.facts.size device.old }
     requires named { IsNamed header.now (hill_in hill.now) }
     ensures served { IsServed D.facts device.old device.new result }
-    ensures put { D.facts.lawful device.old → IsSettled (D.facts.disk device.old) → HoldsNone (current (D.facts.disk device.old))
+    ensures put { D.facts.lawful device.old → IsSettled (D.facts.disk device.old)
+        → HoldsNone (current (D.facts.disk device.old))
         → IsPut D.facts header.now hill.now device.new result }
 {
     write_members(device, header, hill)?;
@@ -122,7 +126,8 @@ fn put_hill<D: Device, A: Allocator>(
     Ok(())
 }
 
-/// Writes the slots of a hill's warriors, in the order of their entries. The places of warriors that aren't older and on the hill are zero.
+/// Writes the slots of a hill's warriors, in the order of their entries. The places of warriors that aren't older and
+/// on the hill are zero.
 fn write_members<D: Device, A: Allocator>(
     device: &mut D,
     header: &Header,
@@ -131,8 +136,10 @@ fn write_members<D: Device, A: Allocator>(
     requires size { sectors_for header.now.settings.capacity ≤ D.facts.size device.old }
     requires named { IsNamed header.now (hill_in hill.now) }
     ensures served { IsServed D.facts device.old device.new result }
-    ensures none { D.facts.lawful device.old → Images (D.facts.disk device.old) HoldsNone → Images (D.facts.disk device.new) HoldsNone }
-    ensures stored { D.facts.lawful device.old → OnOk result (AreStored (current (D.facts.disk device.new)) header.now hill.now) }
+    ensures none { D.facts.lawful device.old → Images (D.facts.disk device.old) HoldsNone
+        → Images (D.facts.disk device.new) HoldsNone }
+    ensures stored { D.facts.lawful device.old
+        → OnOk result (AreStored (current (D.facts.disk device.new)) header.now hill.now) }
     ensures header { IsHeaderParts header.now }
 {
     let entries = header.entries();

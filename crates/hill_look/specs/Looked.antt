@@ -26,7 +26,8 @@ pub record HeadersStood (old new : ℕ → List ℕ) (headers : Headers) : Type 
 abbrev pub SlotsStood : (ℕ → List ℕ) → (ℕ → List ℕ) → MemoryState → Type 0
 SlotsStood old new memory = (n : ℕ) → 2 ≤ n → n < memory_size memory → StoodAt old new n (taken memory n)
 
--- What was read: as it stood at one moment between two, but for the sectors of slots that no member of the newest header had then.
+-- What was read: as it stood at one moment between two, but for the sectors of slots that no member of the newest
+-- header had then.
 pub record WasTaken (old new : ℕ → List ℕ) (memory : MemoryState) : Type 0 where
   pub moment : ℕ → List ℕ
   pub before : MovesOn old moment
@@ -48,7 +49,8 @@ IsNotTaken facts old new (LookRefusal.Refused Refusal.NotAHill) = ⊥
 IsNotTaken facts old new (LookRefusal.Refused Refusal.Damaged) = ⊥
 IsNotTaken facts old new LookRefusal.Changing = facts.lawful old → shown facts new ≡ shown facts old → ⊥
 
--- this hill stood at a moment between two on a device of `size` sectors, under a header of this generation, with the results that stood there, true or not
+-- this hill stood at a moment between two on a device of `size` sectors, under a header of this generation, with the
+-- results that stood there, true or not
 pub record HillStood (size : ℕ) (old new : ℕ → List ℕ) (hill : Kept) (generation : ℕ) : Type 0 where
   pub moment : ℕ → List ℕ
   pub before : MovesOn old moment

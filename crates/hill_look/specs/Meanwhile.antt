@@ -1,4 +1,5 @@
--- What a store may do to the sectors of its hill while another program reads them. An image is what reads give at a moment. A sync changes none.
+-- What a store may do to the sectors of its hill while another program reads them. An image is what reads give at a
+-- moment. A sync changes none.
 use Rattle.std.specs.Prelude.{◌≡◌, ℕ, ◌+◌, ◌%◌, ◌<◌, ◌≤◌, List, [], ◌∷◌}
 use Rattle.{sector_disk.specs.Image.put, hill_images.specs.Stands.IsNewest}
 use Rattle.hill_bytes.specs.Layout.{HeaderParts, IsHeaderParts, SlotIsFree, header_bytes, new_layout, slot_at}

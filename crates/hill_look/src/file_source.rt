@@ -12,8 +12,8 @@ use std::io;
 use std::io::{ErrorKind, Read, Seek, SeekFrom};
 use std::marker::Model;
 
-/// A file that is opened to be read alone: the n-th 512 bytes are sector n. Its lock is neither taken nor looked at, and it is never
-/// written or synced.
+/// A file that is opened to be read alone: the n-th 512 bytes are sector n. Its lock is neither taken nor looked at,
+/// and it is never written or synced.
 ///
 /// Nothing is claimed of what a file holds, so this source is lawful in no contract.
 #[derive(Drop)]
@@ -32,11 +32,12 @@ impl<F> Model for FileSource<F> {
 }
 
 impl<F: OpenFile + Drop> FileSource<F> {
-    /// The source over the file at this path. It has the whole sectors that the file has now, and at most 2³² - 1. It has counted no fault.
+    /// The source over the file at this path. It has the whole sectors that the file has now, and at most 2³² - 1. It
+    /// has counted no fault.
     ///
-    /// `Failed` with `IsADirectory` if the path leads to a folder, with `InvalidInput` if it leads to what is no file, as a pipe, and
-    /// else with the system's reason, as `NotFound` or `PermissionDenied`. `Memory` if the system had none. A pipe isn't opened, since
-    /// that would wait for its writer.
+    /// `Failed` with `IsADirectory` if the path leads to a folder, with `InvalidInput` if it leads to what is no file,
+    /// as a pipe, and else with the system's reason, as `NotFound` or `PermissionDenied`. `Memory` if the system had
+    /// none. A pipe isn't opened, since that would wait for its writer.
     pub fn open<R: Files<File = F>>(rt: &R, path: &str) -> Result<FileSource<F>, OpenFault>
         ensures faults { IfOk result (λ source. source.faults ≡ 0) }
         ensures system { IfErr result IsOfSystem }

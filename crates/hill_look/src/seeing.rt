@@ -12,11 +12,12 @@ use hill_store::Store;
 use sector_disk::MemoryDevice;
 use std::alloc::Allocator;
 
-/// Looks at the hill that a source holds, and opens it as a store over what was read. The source is only read: what is submitted to that
-/// store is written to memory alone.
+/// Looks at the hill that a source holds, and opens it as a store over what was read. The source is only read: what is
+/// submitted to that store is written to memory alone.
 ///
-/// The hill is one that stood at a moment between the first read and the last. It may have a submission that was not answered yet and that a
-/// stop undoes. The refusals are those of opening, and `Changing` if the headers changed in each of a hundred tries.
+/// The hill is one that stood at a moment between the first read and the last. It may have a submission that was not
+/// answered yet and that a stop undoes. The refusals are those of opening, and `Changing` if the headers changed in
+/// each of a hundred tries.
 pub fn look_at_hill<S: Source, A: Allocator + Copy>(
     alloc: A,
     source: &mut S,
@@ -24,10 +25,14 @@ pub fn look_at_hill<S: Source, A: Allocator + Copy>(
     ensures kept { IsKept S.facts source.old source.new }
     ensures faultless { OnOk result (S.facts.faults source.new ≡ S.facts.faults source.old) }
     ensures open_now { IfOk result (λ store. store.reopen ≡ false) }
-    ensures stood { S.facts.lawful source.old → IfOk result (λ store. HillStood (S.facts.size source.old) (shown S.facts source.old) (shown S.facts source.new) store.hill store.generation) }
-    ensures reads { IfOk result (λ store. Images (memory_disk store.device) (λ image. Reads (memory_size store.device) image store.hill)) }
+    ensures stood { S.facts.lawful source.old
+        → IfOk result (λ store. HillStood (S.facts.size source.old) (shown S.facts source.old)
+        (shown S.facts source.new) store.hill store.generation) }
+    ensures reads { IfOk result (λ store. Images (memory_disk store.device)
+        (λ image. Reads (memory_size store.device) image store.hill)) }
     ensures still { S.facts.lawful source.old → shown S.facts source.new ≡ shown S.facts source.old
-        → MatchResult result (λ store. Reads (S.facts.size source.old) (shown S.facts source.old) store.hill) (IsNotSeenIn (S.facts.size source.old) (shown S.facts source.old)) }
+        → MatchResult result (λ store. Reads (S.facts.size source.old) (shown S.facts source.old) store.hill)
+        (IsNotSeenIn (S.facts.size source.old) (shown S.facts source.old)) }
     ensures refused { IfErr result (IsNotSeen S.facts source.old source.new) }
 {
     match look(alloc, source) {

@@ -8,10 +8,11 @@ use sector_disk::Fault;
 
 /// Sectors of 512 bytes each, numbered from 0, which are read while a store of another program may write them.
 ///
-/// All that is said of contents is said of a lawful source. Before, in and after each read a store may have made any number of writes, as
-/// `Meanwhile` in `specs` says. A sector is read as it was before a write of it or after it.
+/// All that is said of contents is said of a lawful source. Before, in and after each read a store may have made any
+/// number of writes, as `Meanwhile` in `specs` says. A sector is read as it was before a write of it or after it.
 pub trait Source {
-    /// The number of its sectors, whether it keeps the laws of contents, what its sectors hold, and the faults that it has counted.
+    /// The number of its sectors, whether it keeps the laws of contents, what its sectors hold, and the faults that it
+    /// has counted.
     ghost facts: { DeviceFacts Self };
 
     /// The number of sectors. No call changes it.
@@ -23,5 +24,6 @@ pub trait Source {
         requires { n < facts.size self.old }
         ensures served { IsServed facts self.old self.new result }
         ensures moved { facts.lawful self.old → MovesOn (shown facts self.old) (shown facts self.new) }
-        ensures given { facts.lawful self.old → OnOk result (StoodAt (shown facts self.old) (shown facts self.new) n to.new) };
+        ensures given { facts.lawful self.old
+            → OnOk result (StoodAt (shown facts self.old) (shown facts self.new) n to.new) };
 }

@@ -9,9 +9,9 @@ abbrev pub StandsForIn : Layout → ℕ → RawSettings → List (List ℕ) → 
 StandsForIn layout size s sources None image = StandsIn layout size image (earned s sources)
 StandsForIn layout size s sources (Some source) image = StandsIn layout size image (earned s sources) ⊎ StandsIn layout size image (earned s (sources ++ source ∷ []))
 
--- What a disk of `size` sectors holds: whatever a stop leaves of it stands for the hill that these sources earn from the beginning, with every
--- pair fought again. If one more source is named, it may stand for the hill that this one earns after them instead. It stands for no other
--- hill: an image stands for one at most.
+-- What a disk of `size` sectors holds: whatever a stop leaves of it stands for the hill that these sources earn from
+-- the beginning, with every pair fought again. If one more source is named, it may stand for the hill that this one
+-- earns after them instead. It stands for no other hill: an image stands for one at most.
 abbrev pub HoldsIn : Layout → ℕ → Disk → RawSettings → List (List ℕ) → Option (List ℕ) → Type 0
 HoldsIn layout size disk s sources more = Images disk (StandsForIn layout size s sources more)
 
@@ -44,7 +44,8 @@ under_way [] replied = None
 under_way (source ∷ sources) [] = None
 under_way (source ∷ sources) (reply ∷ rest) = if is_disk reply then Some source else under_way sources rest
 
--- an open store on a lawful device: its hill is what these sources earn, each result that it keeps is its pair's match, and so it is with every image
+-- an open store on a lawful device: its hill is what these sources earn, each result that it keeps is its pair's match,
+-- and so it is with every image
 pub record IsHolding {D : Type 0} (facts : DeviceFacts D) (s : RawSettings) (sources : List (List ℕ)) (store : Seen D) : Type 0 where
   pub lawful : facts.lawful store.device
   pub open_now : store.reopen ≡ false
@@ -90,8 +91,8 @@ pub record IsMoved {O D : Type 0} (old_facts : DeviceFacts O) (facts : DeviceFac
   pub holding : IsHolding facts s found store
   pub kept : HoldsIn old_layout (old_facts.size old) (old_facts.disk old) s found None
 
--- it did not: the old device holds what it held, and whatever a stop leaves of the new one was there before, or is without a hill, or stands for what
--- these sources earn
+-- it did not: the old device holds what it held, and whatever a stop leaves of the new one was there before, or is
+-- without a hill, or stands for what these sources earn
 pub record IsUnmoved {O D : Type 0} (old_facts : DeviceFacts O) (facts : DeviceFacts D) (s : RawSettings) (sources : List (List ℕ)) (more : Option (List ℕ)) (old : O) (new after : D) (fault : MigrateFault) : Type 0 where
   pub cause : (fault.side ≡ MigrateSide.New) ⊎ ((fault.refusal ≡ Refusal.Disk) ⊎ (fault.refusal ≡ Refusal.Memory))
   pub holds : HoldsIn old_layout (old_facts.size old) (old_facts.disk old) s sources more

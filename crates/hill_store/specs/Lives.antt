@@ -4,11 +4,11 @@ use Rattle.{war_types.specs.declared.settings.RawSettings.RawSettings, koth_hill
 use Rattle.{sector_disk.specs.Changes.Begun, hill_bytes.specs.{declared.format.Format.Format, Layout.{Layout, layout_of, new_layout}}, hill_images.specs.Stands.{Stands, StandsIn}}
 use Rattle.hill_store.specs.{Earned.{earned, step_source, steps}, Holding.{HoldsIn, AreDecided}}
 
--- What happens to a device: an opening is refused, or gives a hill; submissions are answered; the device fails in one; the store on it is
--- closed; a stop leaves an image, and the device starts from that. A source is its bytes, an image what each sector holds.
--- A hill moves from a device of the old format to another one, with this number of sectors, and the life goes on with that one. It moves by a
--- migration that was answered, or by one that was not, but left an image of the other device that stands for the hill. A refused migration
--- is a refused opening.
+-- What happens to a device: an opening is refused, or gives a hill; submissions are answered; the device fails in one;
+-- the store on it is closed; a stop leaves an image, and the device starts from that. A source is its bytes, an image
+-- what each sector holds. A hill moves from a device of the old format to another one, with this number of sectors, and
+-- the life goes on with that one. It moves by a migration that was answered, or by one that was not, but left an image
+-- of the other device that stands for the hill. A refused migration is a refused opening.
 pub data Event : Type 0 where
   NotOpened : Event
   Opened : Hill → Event
@@ -28,8 +28,8 @@ abbrev pub MayMoveOnIn : Layout → ℕ → List ℕ → Disk → Disk → Type 
 MayMoveOnIn layout size source old new =
     (hill : Hill) → Images old (λ image. StandsIn layout size image hill) → Images new (λ image. StandsIn layout size image hill ⊎ StandsIn layout size image (step_source hill source))
 
--- These events happened to a device of this format and number of sectors. Submissions come only while a store is open that has answered no
--- `Disk`.
+-- These events happened to a device of this format and number of sectors. Submissions come only while a store is open
+-- that has answered no `Disk`.
 abbrev pub LivesIn : Format → ℕ → Bool → Disk → List Event → Disk → Type 0
 LivesIn format size is_open old [] new = new ≡ old
 LivesIn format size is_open old (Event.NotOpened ∷ events) new = (mid : Disk) × Begun (synced ∷ []) old mid × LivesIn format size false mid events new
@@ -80,8 +80,9 @@ size_after size (Event.Stopped image ∷ events) = size_after size events
 size_after size (Event.Moved moved_size disk hill ∷ events) = size_after moved_size events
 size_after size (Event.MovedAtStop moved_size image hill ∷ events) = size_after moved_size events
 
--- The record of a life at whose beginning each image stands for what these sources earn, or these and one more: the sources that count in
--- the end, and the one more that may. A source that was answered counts. The next opening or move decides on one that was not.
+-- The record of a life at whose beginning each image stands for what these sources earn, or these and one more: the
+-- sources that count in the end, and the one more that may. A source that was answered counts. The next opening or move
+-- decides on one that was not.
 abbrev pub IsRecord : RawSettings → List (List ℕ) → Option (List ℕ) → List Event → List (List ℕ) → Option (List ℕ) → Type 0
 IsRecord s sources more [] found last = (found ≡ sources) × (last ≡ more)
 IsRecord s sources more (Event.NotOpened ∷ events) found last = IsRecord s sources more events found last

@@ -24,7 +24,8 @@ IsNotCreated facts old s new Refusal.Occupied = IsNotWritten facts old (new_kept
 IsNotCreated facts old s new Refusal.NotAHill = ⊥
 IsNotCreated facts old s new Refusal.Damaged = ⊥
 
--- the hill was opened that the device reads as, with the results that stand there, true or not; nothing that was read can be lost, and no call of the device failed
+-- the hill was opened that the device reads as, with the results that stand there, true or not; nothing that was read
+-- can be lost, and no call of the device failed
 pub record IsOpened {D : Type 0} (facts : DeviceFacts D) (old : D) (store : Seen D) : Type 0 where
   pub open_now : store.reopen ≡ false
   pub generation : facts.lawful old → (h : HeaderParts) × IsNewest (current (facts.disk old)) h × (store.generation ≡ h.generation)
@@ -41,7 +42,8 @@ pub record IsReadOf {O : Type 0} (facts : DeviceFacts O) (old after : O) (hill :
   pub synced_now : facts.lawful old → facts.disk after ≡ synced (facts.disk old)
   pub reads_as : facts.lawful old → ReadsIn old_layout (facts.size old) (current (facts.disk old)) hill
 
--- it was moved: the new device held none, and reads as it now, with the results that stood on the old one, true or not, and the generation of its header
+-- it was moved: the new device held none, and reads as it now, with the results that stood on the old one, true or not,
+-- and the generation of its header
 pub record IsMigrated {O D : Type 0} (old_facts : DeviceFacts O) (facts : DeviceFacts D) (old after : O) (new : D) (store : Seen D) : Type 0 where
   pub read : IsReadOf old_facts old after store.hill
   pub generation : old_facts.lawful old → (h : HeaderParts) × IsNewestIn old_layout (current (old_facts.disk old)) h × (store.generation ≡ h.generation)

@@ -13,13 +13,15 @@ pub record IsJudged {D : Type 0} (store : Seen D) (source : List ℕ) (judged : 
   pub verdict : judged ≡ verdict_kept store.hill warrior
   pub reply : reply_judged judged ≡ kept_reply store.hill source
 
--- what a source would be answered: this verdict, or this reply, which changes nothing; without either the steps may be spent
+-- what a source would be answered: this verdict, or this reply, which changes nothing; without either the steps may be
+-- spent
 abbrev pub IsTried : {D : Type 0} → DeviceFacts D → Option ℕ → Seen D → List ℕ → Option (Result Verdict Reply) → Type 0
 IsTried facts steps store source None = MayBeSpent steps source
 IsTried facts steps store source (Some (Ok judged)) = IsJudged store source judged
 IsTried facts steps store source (Some (Err reply)) = Submits facts store source reply store
 
--- a hill was written to a device that held none: every image of it reads as that hill, under a header of this generation
+-- a hill was written to a device that held none: every image of it reads as that hill, under a header of this
+-- generation
 pub record IsCopied {N : Type 0} (facts : DeviceFacts N) (hill : Kept) (generation : ℕ) (old new : N) : Type 0 where
   pub was_none : facts.lawful old → HoldsNone (current (facts.disk old))
   pub reads : facts.lawful old → Images (facts.disk new) (λ image. Reads (facts.size new) image hill)

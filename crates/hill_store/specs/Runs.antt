@@ -20,8 +20,8 @@ pub record IsSubmitted {D : Type 0} (facts : DeviceFacts D) (old : Seen D) (sour
   pub kept : IsKept facts old.device new.device
   pub submits : Submits facts old source reply new
 
--- The replies are those of these sources, each submitted to the store that the one before it left, up to and with the first `Disk`.
--- No source is left out but those after a `Disk`: `stopped` says that one came just before.
+-- The replies are those of these sources, each submitted to the store that the one before it left, up to and with the
+-- first `Disk`. No source is left out but those after a `Disk`: `stopped` says that one came just before.
 abbrev pub RunsOn : {D : Type 0} → DeviceFacts D → Bool → Seen D → List (List ℕ) → List Reply → Seen D → Type 0
 RunsOn facts true old sources [] new = new ≡ old
 RunsOn facts true old sources (reply ∷ rest) new = ⊥

@@ -4,7 +4,8 @@ use Rattle.{war_types.specs.{Warrior.WarriorParts, declared.fault.AsmFault.AsmFa
 use Rattle.{koth_hill.specs.Kept.{Kept, IsKept, step_kept, verdict_kept}, sector_disk.specs.{Facts.DeviceFacts, Image.Images, Served.Failed}, hill_bytes.specs.Layout.HeaderParts, hill_images.specs.Stands.{IsNewest, Reads}}
 use Rattle.hill_store.specs.{declared.reply.Reply.Reply, Earned.{kept_reply, kept_next, reply_judged}}
 
--- the device, the hill with the results that it keeps, how many headers were written before the last, and whether a submission was answered `Disk`
+-- the device, the hill with the results that it keeps, how many headers were written before the last, and whether a
+-- submission was answered `Disk`
 pub record Seen (D : Type 0) : Type 0 where
   pub device : D
   pub hill : Kept
@@ -57,7 +58,8 @@ abbrev pub MayBeSpent : Option ℕ → List ℕ → Type 0
 MayBeSpent None source = ⊥
 MayBeSpent (Some steps) source = MaySpend steps source
 
--- what a submission made of a store, by its reply and by the results that its hill keeps; if these are true, `IsAnew` says more
+-- what a submission made of a store, by its reply and by the results that its hill keeps; if these are true, `IsAnew`
+-- says more
 abbrev pub Submits : {D : Type 0} → DeviceFacts D → Seen D → List ℕ → Reply → Seen D → Type 0
 Submits facts old source (Reply.Placed entry rank score) new =
     (Reply.Placed entry rank score ≡ kept_reply old.hill source) × IsAnswered facts old (kept_next old.hill source) new

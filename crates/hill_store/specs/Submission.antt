@@ -22,7 +22,8 @@ pub record IsSubmitting {D : Type 0} (store : Seen D) (submission : SubmissionPa
   pub may : MayChallenge store submission.warrior
   pub challenge : IsUnderWay store.hill submission.warrior submission.challenge
 
--- what a source was answered, which changes nothing, or the submission of its warrior; without either the steps may be spent
+-- what a source was answered, which changes nothing, or the submission of its warrior; without either the steps may be
+-- spent
 abbrev pub IsBegun : {D : Type 0} → DeviceFacts D → Option ℕ → Seen D → List ℕ → Option (Result SubmissionParts Reply) → Type 0
 IsBegun facts steps store source None = MayBeSpent steps source
 IsBegun facts steps store source (Some (Ok submission)) = (assembly store.hill.settings source ≡ Ok submission.warrior) × IsSubmitting store submission

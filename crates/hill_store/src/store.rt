@@ -50,11 +50,12 @@ impl<D: Device, A: Allocator> Model for Store<D, A> {
 impl<D: Device, A: Allocator + Copy> Store<D, A> {
     /// Creates a hill without warriors on a device that holds none.
     ///
-    /// The refusals, in their order: `TooSmall` if the device has fewer sectors than the hill needs, `Memory` (all memory is taken
-    /// here), `Disk`, `Occupied` if a sector holds a valid header of either format, and `Disk` while the first header is written.
-    /// The device comes back with each.
+    /// The refusals, in their order: `TooSmall` if the device has fewer sectors than the hill needs, `Memory` (all
+    /// memory is taken here), `Disk`, `Occupied` if a sector holds a valid header of either format, and `Disk` while
+    /// the first header is written. The device comes back with each.
     pub fn create(alloc: A, mut device: D, settings: Settings) -> Result<Store<D, A>, (D, Refusal)>
-        ensures kept { MatchResult result (λ store. IsKept D.facts device store.device) (λ refused. IsKept D.facts device refused.0) }
+        ensures kept { MatchResult result (λ store. IsKept D.facts device store.device)
+            (λ refused. IsKept D.facts device refused.0) }
         ensures small { D.facts.size device < sectors_for settings.capacity → result ≡ Err (device, Refusal.TooSmall) }
         ensures created { IfOk result (IsCreated D.facts device settings) }
         ensures holds { IfOk result (λ store. D.facts.lawful device → IsHolding D.facts settings [] store) }
@@ -87,17 +88,20 @@ impl<D: Device, A: Allocator + Copy> Store<D, A> {
 
     /// Opens the hill that a device holds. Nothing is written.
     ///
-    /// The refusals, in their order: `TooSmall` if the device has fewer than two sectors, `Disk`, `NotAHill`, `TooSmall`
-    /// for the capacity that the header names, and while the slots are read `Disk`, or `Damaged` if the bytes are no
-    /// slot. `Memory` comes whenever there is no memory. The device comes back with each.
+    /// The refusals, in their order: `TooSmall` if the device has fewer than two sectors, `Disk`, `NotAHill`,
+    /// `TooSmall` for the capacity that the header names, and while the slots are read `Disk`, or `Damaged` if the
+    /// bytes are no slot. `Memory` comes whenever there is no memory. The device comes back with each.
     pub fn open(alloc: A, mut device: D) -> Result<Store<D, A>, (D, Refusal)>
-        ensures kept { MatchResult result (λ store. IsKept D.facts device store.device) (λ refused. IsKept D.facts device refused.0) }
+        ensures kept { MatchResult result (λ store. IsKept D.facts device store.device)
+            (λ refused. IsKept D.facts device refused.0) }
         ensures small { D.facts.size device < 2 → result ≡ Err (device, Refusal.TooSmall) }
         ensures opened { IfOk result (IsOpened D.facts device) }
         ensures refused { IfErr result (λ refused. IsNotOpened D.facts device refused.0 refused.1) }
         ensures unfaulted { IfErr result (λ refused. IsUnfaulted D.facts device refused.0 refused.1) }
-        ensures holds { (s : RawSettings) (sources : List (List ℕ)) (more : Option (List ℕ)) → D.facts.lawful device → Holds (D.facts.size device) (D.facts.disk device) s sources more
-            → MatchResult result (IsDecided D.facts s sources more) (λ refused. IsUndecided D.facts s sources more refused.0 refused.1) }
+        ensures holds { (s : RawSettings) (sources : List (List ℕ)) (more : Option (List ℕ)) → D.facts.lawful device
+            → Holds (D.facts.size device) (D.facts.disk device) s sources more
+            → MatchResult result (IsDecided D.facts s sources more)
+            (λ refused. IsUndecided D.facts s sources more refused.0 refused.1) }
     {
         match recover(alloc, &mut device, Format::New) {
             Ok(found) => Ok(Store {
@@ -112,25 +116,32 @@ impl<D: Device, A: Allocator + Copy> Store<D, A> {
         }
     }
 
-    /// Moves the hill that a device holds in the old format to another device, in the new one. Nothing is written to the old device.
+    /// Moves the hill that a device holds in the old format to another device, in the new one. Nothing is written to
+    /// the old device.
     ///
-    /// The refusals, in their order: those of the old device, as `open` has them; then those of the new one, `TooSmall` if it has fewer
-    /// sectors than the hill needs, `Disk`, `Occupied` if a sector holds a valid header of either format, and `Disk` while the slots of the
-    /// warriors and then the header are written. All memory is taken before the new device is looked at. Both devices come back with each.
+    /// The refusals, in their order: those of the old device, as `open` has them; then those of the new one, `TooSmall`
+    /// if it has fewer sectors than the hill needs, `Disk`, `Occupied` if a sector holds a valid header of either
+    /// format, and `Disk` while the slots of the warriors and then the header are written. All memory is taken before
+    /// the new device is looked at. Both devices come back with each.
     pub fn migrate<O: Device>(
         alloc: A,
         mut old: O,
         mut new: D,
     ) -> Result<(O, Store<D, A>), (O, D, MigrateFault)>
-        ensures kept { MatchResult result (λ moved. IsKept O.facts old moved.0 × IsKept D.facts new moved.1.device) (λ refused. IsKept O.facts old refused.0 × IsKept D.facts new refused.1) }
-        ensures small { O.facts.size old < 2 → result ≡ Err (old, new, record { side = MigrateSide.Old; refusal = Refusal.TooSmall }) }
+        ensures kept { MatchResult result (λ moved. IsKept O.facts old moved.0 × IsKept D.facts new moved.1.device)
+            (λ refused. IsKept O.facts old refused.0 × IsKept D.facts new refused.1) }
+        ensures small { O.facts.size old < 2
+            → result ≡ Err (old, new, record { side = MigrateSide.Old; refusal = Refusal.TooSmall }) }
         ensures migrated { IfOk result (λ moved. IsMigrated O.facts D.facts old moved.0 new moved.1) }
-        ensures refused { IfErr result (λ refused. IsNotMigrated O.facts D.facts old refused.0 new refused.1 refused.2) }
+        ensures refused { IfErr result (λ refused. IsNotMigrated O.facts D.facts old refused.0 new refused.1
+            refused.2) }
         ensures unfaulted { IfErr result (λ refused. IsUnfaulted O.facts old refused.0 refused.2.refusal
             × IsUnfaulted D.facts new refused.1 refused.2.refusal) }
-        ensures holds { (s : RawSettings) (sources : List (List ℕ)) (more : Option (List ℕ)) → O.facts.lawful old → D.facts.lawful new
+        ensures holds { (s : RawSettings) (sources : List (List ℕ)) (more : Option (List ℕ)) → O.facts.lawful old
+            → D.facts.lawful new
             → HoldsIn old_layout (O.facts.size old) (O.facts.disk old) s sources more
-            → MatchResult result (λ moved. IsMoved O.facts D.facts s sources more moved.0 moved.1) (λ refused. IsUnmoved O.facts D.facts s sources more refused.0 new refused.1 refused.2) }
+            → MatchResult result (λ moved. IsMoved O.facts D.facts s sources more moved.0 moved.1)
+            (λ refused. IsUnmoved O.facts D.facts s sources more refused.0 new refused.1 refused.2) }
     {
         let found = match recover(alloc, &mut old, Format::Old) {
             Ok(found) => found,
@@ -171,11 +182,12 @@ impl<D: Device, A: Allocator + Copy> Store<D, A> {
         }
     }
 
-    /// Submits a source as `submit` does, in this number of steps if there is one. If the assembly spends them, nothing is submitted, and there
-    /// is no reply: so it will be with the same source again.
+    /// Submits a source as `submit` does, in this number of steps if there is one. If the assembly spends them, nothing
+    /// is submitted, and there is no reply: so it will be with the same source again.
     pub fn submit_within(&mut self, source: &[u8], steps: Option<u64>) -> Option<Reply>
         ensures submits { SubmitsWithin D.facts steps self.old source.now result self.new }
-        ensures anew { AreTrue self.old.hill → IfSome result (λ reply. IsAnew self.old.hill source.now reply self.new.hill) }
+        ensures anew { AreTrue self.old.hill
+            → IfSome result (λ reply. IsAnew self.old.hill source.now reply self.new.hill) }
         ensures holds { (s : RawSettings) (before : List (List ℕ)) → IsHolding D.facts s before self.old
             → IfSome result (λ reply. HoldsMore D.facts s before (source.now ∷ []) (reply ∷ []) self.new) }
         ensures kept { IsKept D.facts self.old.device self.new.device }
@@ -184,8 +196,8 @@ impl<D: Device, A: Allocator + Copy> Store<D, A> {
         self.reply_to(source, steps)
     }
 
-    /// Submits these sources one after another, up to the first that is answered `Disk`, and answers the replies in their
-    /// order. `Err` means that nothing was submitted.
+    /// Submits these sources one after another, up to the first that is answered `Disk`, and answers the replies in
+    /// their order. `Err` means that nothing was submitted.
     pub fn submit_all(&mut self, sources: &[&[u8]]) -> Result<Vec<Reply, A>, AllocError>
         ensures runs { IfOk result (λ replies. Runs D.facts self.old (texts sources.now) replies.items self.new) }
         ensures holds { (s : RawSettings) (before : List (List ℕ)) → IsHolding D.facts s before self.old
@@ -248,7 +260,8 @@ impl<D: Device, A: Allocator + Copy> Store<D, A> {
         requires more { self.old.generation < 2 ^ 64 - 1 }
         requires entry { judged.now.entry ≡ self.old.hill.counter + 1 }
         requires falls { judged.now.stays ≡ false }
-        ensures challenges { (w : WarriorParts) → judged.now ≡ verdict_kept self.old.hill w → Challenges D.facts self.old w result self.new }
+        ensures challenges { (w : WarriorParts) → judged.now ≡ verdict_kept self.old.hill w
+            → Challenges D.facts self.old w result self.new }
         ensures kept { IsKept D.facts self.old.device self.new.device }
     {
         let header = header_passed(&self.header);
@@ -262,11 +275,12 @@ impl<D: Device, A: Allocator + Copy> Store<D, A> {
         }
     }
 
-    /// The table, highest score first, among equals the earlier entry first, by the results that are kept: no match is fought. After
-    /// `Disk` it is that of the hill as it was before that submission.
+    /// The table, highest score first, among equals the earlier entry first, by the results that are kept: no match is
+    /// fought. After `Disk` it is that of the hill as it was before that submission.
     pub fn rows(&self) -> Result<Vec<Row<'_>, A>, AllocError>
         ensures kept { IfOk result (λ rows. rows_parts rows.items ≡ table_kept self.now.hill) }
-        ensures table { AreTrue self.now.hill → IfOk result (λ rows. rows_parts rows.items ≡ table (hill_in self.now.hill)) }
+        ensures table { AreTrue self.now.hill
+            → IfOk result (λ rows. rows_parts rows.items ≡ table (hill_in self.now.hill)) }
     {
         self.hill.rows(self.alloc)
     }
@@ -286,8 +300,8 @@ impl<D: Device, A: Allocator + Copy> Store<D, A> {
         self.hill.audit(&mut self.arena)
     }
 
-    /// The first kept result that is not the one that the match gives when it is fought again, by the younger warrior's entry and then the
-    /// older's; `None` if there is no such result. It needs no memory.
+    /// The first kept result that is not the one that the match gives when it is fought again, by the younger warrior's
+    /// entry and then the older's; `None` if there is no such result. It needs no memory.
     pub fn first_untrue(&mut self) -> Option<Untrue>
         ensures none { result ≡ None → AreTrue self.old.hill }
         ensures some { IfSome result (λ u. IsUntrue self.old.hill u.older u.younger u.kept u.fought) }
@@ -299,7 +313,7 @@ impl<D: Device, A: Allocator + Copy> Store<D, A> {
 }
 
 impl<D: Device, A: Allocator> Store<D, A> {
-    /// The device, as it stands. It needs no memory.
+    /// The device, as it is. It needs no memory.
     pub fn close(self) -> D
         ensures { result ≡ self.device }
     {

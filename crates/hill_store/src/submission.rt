@@ -1,12 +1,12 @@
-//! A submission under way.
+//! A submission in progress.
 
 use koth_hill::Challenge;
 use std::alloc::Allocator;
 use std::marker::Model;
 use war_types::Warrior;
 
-/// A submission under way: the warrior of a source, and its challenge. One that is given up leaves nothing on the device and
-/// on the hill.
+/// A submission in progress: the warrior of a source, and its challenge. One that is given up leaves nothing on the
+/// device and on the hill.
 #[derive(Drop)]
 pub struct Submission<A: Allocator> {
     pub(crate) warrior: Warrior<A>,

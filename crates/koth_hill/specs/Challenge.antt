@@ -7,7 +7,8 @@ use Rattle.koth_hill.specs.{declared.challenge.Challenge.Challenge, Step.matches
 abbrev pub rounds_of_step : ℕ → RawSettings → ℕ
 rounds_of_step turns s = max 1 (turns / (2 * s.cycles))
 
--- a challenge of this warrior to this hill: its matches with the first members were fought, and some rounds of the one with the next
+-- a challenge of this warrior to this hill: its matches with the first members were fought, and some rounds of the one
+-- with the next
 pub record IsUnderWay (k : Kept) (w : WarriorParts) (c : Challenge) : Type 0 where
   pub few : length c.bouts ≤ length k.members
   pub fought : c.bouts ≡ matches_with k.settings (take (length c.bouts) k.members) w

@@ -99,7 +99,8 @@ pub record IsUntrue (k : Kept) (older younger : ℕ) (kept fought : Bout) : Type
   pub fought_is : result_of (entries_of k.members) (fought_from k.settings [] k.members) older younger ≡ Some fought
   pub differ : kept ≡ fought → ⊥
 
--- what is kept before that of these two is true: of each younger that entered before this one, and of this one with each older before that one
+-- what is kept before that of these two is true: of each younger that entered before this one, and of this one with
+-- each older before that one
 pub record AreTrueBefore (k : Kept) (older younger : ℕ) : Type 0 where
   pub youngers : (o y : ℕ) → y < younger → IsTrueOf k o y
   pub olders : (o : ℕ) → o < older → IsTrueOf k o younger

@@ -11,7 +11,8 @@ challenger h w = record { entry = h.counter + 1; age = 0; warrior = w }
 abbrev pub enlarged : Hill → WarriorParts → List Member
 enlarged h w = h.members ++ challenger h w ∷ []
 
--- the entry that falls, if they are more than the hill holds: the one of least points, among equals the one that entered last
+-- the entry that falls, if they are more than the hill holds: the one of least points, among equals the one that
+-- entered last
 abbrev pub falling_by : Results → Hill → WarriorParts → Option ℕ
 falling_by f h w =
     if nat_lt h.settings.capacity (length (enlarged h w)) then last_among (scores_of f (enlarged h w)) (scores_of f (enlarged h w)) else None

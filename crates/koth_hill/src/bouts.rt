@@ -6,7 +6,7 @@ ghost use Rattle.koth_hill.specs.Kept.{without_place};
 use koth_match::Bout;
 use std::marker::Model;
 
-/// Others that may be on a hill beside one warrior, or before a challenger.
+/// Others that may be on a hill next to one warrior, or before a challenger.
 const PLACES: usize = 20;
 
 pub(crate) const NO_ROUNDS: Bout = Bout {

@@ -15,8 +15,8 @@ use war_types::{Settings, Warrior};
 /// The most turns of a step, where its caller has no bound of its own: those of the longest round that settings allow.
 pub const MOST_TURNS: u32 = 2_000_000;
 
-/// A challenge under way: the results of the challenger's matches with the first members, by their rising entries, and its
-/// match with the next one. It takes no memory, and one that is given up leaves nothing.
+/// A challenge in progress: the results of the challenger's matches with the first members, by their rising entries,
+/// and its match with the next one. It takes no memory, and one that is given up leaves nothing.
 #[derive(Drop)]
 pub struct Challenge {
     bouts: Bouts,
@@ -34,9 +34,9 @@ impl Challenge {
         }
     }
 
-    /// Plays on in the match under way: as many rounds as have `turns` turns at most, or fewer to the end of the match. The settings and
-    /// `turns` alone say this number, and it is at least 1. If all matches are fought, it plays none, and answers the verdict of
-    /// `Hill::judge`. No verdict depends on `turns`.
+    /// Plays on in the current match: as many rounds as have `turns` turns at most, or fewer to the end of the match.
+    /// The settings and `turns` alone say this number, and it is at least 1. If all matches are fought, it plays none,
+    /// and answers the verdict of `Hill::judge`. No verdict depends on `turns`.
     pub fn step<A: Allocator, B: Allocator, C: Allocator>(
         &mut self,
         hill: &Hill<A>,
@@ -86,7 +86,8 @@ impl Challenge {
         }
     }
 
-    /// Plays on in the match under way, with this older warrior. If it ends, its result is one more, and the next match is under way.
+    /// Plays on in the current match, with this older warrior. If it ends, its result is one more, and the next match
+    /// is in progress.
     fn fight_on<A: Allocator, B: Allocator, C: Allocator>(
         &mut self,
         arena: &mut Arena<A>,

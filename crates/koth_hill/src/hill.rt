@@ -23,9 +23,9 @@ use std::alloc::{AllocError, Allocator};
 use std::marker::Model;
 use war_types::{Settings, Warrior};
 
-/// A hill: its settings, the number of warriors that were ever judged, and the warriors on it, by their entries. Each has the results of
-/// its matches with those that entered before it. A challenger fights its own matches and no others, and a table none. Only `new`,
-/// `with_counter` and `rows` take memory.
+/// A hill: its settings, the number of warriors that were ever judged, and the warriors on it, by their entries. Each
+/// has the results of its matches with those that entered before it. A challenger fights its own matches and no others,
+/// and a table none. Only `new`, `with_counter` and `rows` take memory.
 #[derive(Drop)]
 pub struct Hill<A: Allocator> {
     settings: Settings,
@@ -41,7 +41,8 @@ impl<A: Allocator> Model for Hill<A> {
 
     ghost view = { λ h. kept_of h.settings h.counter (members_of h.members.items) (rows_of h.members.items) };
 
-    ghost invariant = { λ h. IsKept (kept_of h.settings h.counter (members_of h.members.items) (rows_of h.members.items)) × (h.settings.capacity + 1 ≤ vec_capacity h.members) };
+    ghost invariant = { λ h. IsKept (kept_of h.settings h.counter (members_of h.members.items)
+        (rows_of h.members.items)) × (h.settings.capacity + 1 ≤ vec_capacity h.members) };
 }
 
 impl<A: Allocator> Hill<A> {
@@ -108,7 +109,8 @@ impl<A: Allocator> Hill<A> {
         self.members[i].bouts().as_slice()
     }
 
-    /// The result kept of two warriors on the hill, by their entries; `None` unless both are on it, the first entered before the other.
+    /// The result kept of two warriors on the hill, by their entries; `None` unless both are on it, the first entered
+    /// before the other.
     pub fn bout(&self, older_entry: u64, younger_entry: u64) -> Option<Bout>
         ensures { result ≡ result_of (entries_of self.now.members) self.now.results older_entry younger_entry }
     {
@@ -116,7 +118,8 @@ impl<A: Allocator> Hill<A> {
         result_of(standings.as_slice(), older_entry, younger_entry)
     }
 
-    /// What becomes of a challenger. Its own matches are fought in the arena; the results of all others are there. Nothing visible changes.
+    /// What becomes of a challenger. Its own matches are fought in the arena; the results of all others are there.
+    /// Nothing visible changes.
     pub fn judge<B: Allocator, C: Allocator>(
         &mut self,
         arena: &mut Arena<B>,
@@ -182,13 +185,14 @@ impl<A: Allocator> Hill<A> {
         requires falls { judged.now.stays ≡ false }
         ensures after { self.new ≡ kept_fall self.old }
         ensures kept { (w : WarriorParts) → judged.now ≡ verdict_kept self.old w → self.new ≡ step_kept self.old w }
-        ensures step { (w : WarriorParts) → judged.now ≡ verdict_kept self.old w → AreTrue self.old → (hill_in self.new ≡ step (hill_in self.old) w) × AreTrue self.new }
+        ensures step { (w : WarriorParts) → judged.now ≡ verdict_kept self.old w → AreTrue self.old
+            → (hill_in self.new ≡ step (hill_in self.old) w) × AreTrue self.new }
     {
         self.counter = judged.entry;
     }
 
-    /// Puts a warrior after those on the hill, with the entry and the age that it had, and the results of its matches with them, by
-    /// their rising entries.
+    /// Puts a warrior after those on the hill, with the entry and the age that it had, and the results of its matches
+    /// with them, by their rising entries.
     pub fn put_back(&mut self, entry: u64, age: u64, warrior: Warrior<A>, bouts: &[Bout])
         requires room { length self.old.members < self.old.settings.capacity }
         requires entry { last_entry self.old.members < entry }
@@ -197,7 +201,8 @@ impl<A: Allocator> Hill<A> {
         requires fits { Fits self.old.settings warrior }
         requires each { length bouts.now ≡ length self.old.members }
         requires rounds { All (λ b. rounds_in b ≡ self.old.settings.rounds) bouts.now }
-        ensures { self.new ≡ kept_of self.old.settings self.old.counter (self.old.members ++ member_of entry age warrior ∷ []) (self.old.results ++ bouts.now ∷ []) }
+        ensures { self.new ≡ kept_of self.old.settings self.old.counter
+            (self.old.members ++ member_of entry age warrior ∷ []) (self.old.results ++ bouts.now ∷ []) }
     {
         let members = &mut self.members;
         let _ = members.push(Entrant::new(entry, age, warrior, Bouts::of(bouts)));
@@ -207,13 +212,14 @@ impl<A: Allocator> Hill<A> {
     pub fn rows<B: Allocator + Copy>(&self, alloc: B) -> Result<Vec<Row<'_>, B>, AllocError>
         ensures kept { IfOk result (λ rows. rows_parts rows.items ≡ table_kept self.now) }
         ensures table { AreTrue self.now → IfOk result (λ rows. rows_parts rows.items ≡ table (hill_in self.now)) }
-        ensures ranking { AreTrue self.now → IfOk result (λ rows. IsRanking (hill_in self.now) (rows_parts rows.items)) }
+        ensures ranking { AreTrue self.now
+            → IfOk result (λ rows. IsRanking (hill_in self.now) (rows_parts rows.items)) }
     {
         rows_of(alloc, self.members.as_slice())
     }
 
-    /// The first result that is not the one that the match gives when it is fought again in the arena, by the younger's entry and then the
-    /// older's. No memory is taken.
+    /// The first result that is not the one that the match gives when it is fought again in the arena, by the younger's
+    /// entry and then the older's. No memory is taken.
     pub fn first_untrue<B: Allocator>(&self, arena: &mut Arena<B>) -> Option<Untrue>
         requires { arena.old.settings ≡ self.now.settings }
         ensures none { result ≡ None → AreTrue self.now }

@@ -9,7 +9,7 @@ use crate::score::{Score, last_among, rank_among};
 use crate::standings::Standing;
 use crate::verdict::Verdict;
 
-/// The verdict on a challenger, which stands last of these, on a hill of this capacity.
+/// The verdict on a challenger, which is last of these, on a hill of this capacity.
 pub(crate) fn judged(standings: &[Standing<'_>], capacity: usize, own: Standing<'_>) -> Verdict
     requires standings { AreStandings (map standing_parts standings.now) }
     requires few { length standings.now ≤ 21 }

@@ -50,12 +50,14 @@ fn younger_points(bout: Bout) -> u32
     3 * u32::from(bout.younger_wins) + u32::from(bout.ties)
 }
 
-/// What the one at place `i` earns in its match with the one at place `j`, the earlier entry being the older warrior. Nobody fights itself.
+/// What the one at place `i` earns in its match with the one at place `j`, the earlier entry being the older warrior.
+/// No one fights itself.
 fn points_between(standings: &[Standing<'_>], i: usize, j: usize) -> u32
     requires standings { AreStandings (map standing_parts standings.now) }
     requires one { i < length standings.now }
     requires other { j < length standings.now }
-    ensures value { result ≡ points_between (kept_in (map standing_parts standings.now)) (entry_at (map standing_parts standings.now) i) (entry_at (map standing_parts standings.now) j) }
+    ensures value { result ≡ points_between (kept_in (map standing_parts standings.now))
+        (entry_at (map standing_parts standings.now) i) (entry_at (map standing_parts standings.now) j) }
     ensures small { result ≤ 3000 }
 {
     if standings[i].entry < standings[j].entry {
@@ -72,7 +74,8 @@ fn result_between(standings: &[Standing<'_>], older: usize, younger: usize) -> B
     requires standings { AreStandings (map standing_parts standings.now) }
     requires older { older < length standings.now }
     requires younger { younger < length standings.now }
-    ensures value { result ≡ kept_in (map standing_parts standings.now) (entry_at (map standing_parts standings.now) older) (entry_at (map standing_parts standings.now) younger) }
+    ensures value { result ≡ kept_in (map standing_parts standings.now)
+        (entry_at (map standing_parts standings.now) older) (entry_at (map standing_parts standings.now) younger) }
     ensures rounds { rounds_in result ≤ 1000 }
 {
     match result_at(standings[younger].bouts, older) {
@@ -95,7 +98,8 @@ pub(crate) fn points(standings: &[Standing<'_>], out: Option<u64>, place: usize)
     requires standings { AreStandings (map standing_parts standings.now) }
     requires few { length standings.now ≤ 21 }
     requires place { place < length standings.now }
-    ensures { result ≡ points_among (kept_in (map standing_parts standings.now)) (left out (entries_in (map standing_parts standings.now))) (entry_at (map standing_parts standings.now) place) }
+    ensures { result ≡ points_among (kept_in (map standing_parts standings.now))
+        (left out (entries_in (map standing_parts standings.now))) (entry_at (map standing_parts standings.now) place) }
 {
     let mut sum = 0;
     for (i, standing) in standings.iter().enumerate() {
@@ -110,7 +114,8 @@ pub(crate) fn points(standings: &[Standing<'_>], out: Option<u64>, place: usize)
 pub(crate) fn scores(standings: &[Standing<'_>], out: Option<u64>) -> Scores
     requires standings { AreStandings (map standing_parts standings.now) }
     requires few { length standings.now ≤ 21 }
-    ensures { result ≡ scores_among (kept_in (map standing_parts standings.now)) (left out (entries_in (map standing_parts standings.now))) }
+    ensures { result ≡ scores_among (kept_in (map standing_parts standings.now))
+        (left out (entries_in (map standing_parts standings.now))) }
 {
     let mut scores = Scores::new();
     for (i, standing) in standings.iter().enumerate() {

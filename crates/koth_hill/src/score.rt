@@ -1,4 +1,4 @@
-//! Points beside entries, and their order.
+//! Points next to entries, and their order.
 
 ghost use Rattle.std.specs.Prelude.{◌≡◌, ◌+◌, ◌<◌, ◌≤◌, ◌++◌, ◌∷◌, [], length};
 ghost use Rattle.koth_hill.specs.Scores.{outranks, rank_among, last_among};

@@ -17,7 +17,9 @@ pub(crate) fn rows_of<'h, A: Allocator, B: Allocator>(
 ) -> Result<Vec<Row<'h>, A>, AllocError>
     requires standings { AreStandings (map standing_of members.now) }
     requires few { length members.now ≤ 20 }
-    ensures { IfOk result (λ rows. rows_parts rows.items ≡ table_by (kept_results (entries_of (members_of members.now)) (kept_rows members.now)) (members_of members.now)) }
+    ensures { IfOk result (λ rows. rows_parts rows.items
+        ≡ table_by (kept_results (entries_of (members_of members.now)) (kept_rows members.now))
+        (members_of members.now)) }
 {
     let standings = Standings::of(members);
     let all_scores = scores(standings.as_slice(), None);
@@ -37,7 +39,8 @@ fn push_rank<'h, A: Allocator, B: Allocator>(
 ) -> Result<(), AllocError>
     requires beside { length scores.now ≡ length members.now }
     requires few { length members.now ≤ 20 }
-    ensures { OnOk result (rows_parts rows.new.items ≡ rows_parts rows.old.items ++ rows_of_rank scores.now rank (members_of members.now) scores.now) }
+    ensures { OnOk result (rows_parts rows.new.items ≡ rows_parts rows.old.items
+        ++ rows_of_rank scores.now rank (members_of members.now) scores.now) }
 {
     for (i, member) in members.iter().enumerate() {
         if rank_among(scores, scores[i]) == rank {

@@ -41,7 +41,8 @@ commands_by reader Word.Other behind others = Bad ∷ others
 abbrev pub with_line : List ℕ → List ℕ → List ℕ
 with_line source line = source ++ without_dot line ++ 10 ∷ []
 
--- the commands of these lines, after the beginning of a source or while a command is due; a source without its last line is none
+-- the commands of these lines, after the beginning of a source or while a command is due; a source without its last
+-- line is none
 abbrev pub read_from : Reader → Option (List ℕ) → List (List ℕ) → List Command
 read_from reader source [] = []
 read_from reader None (line ∷ lines) = commands_by reader (word_of line) (read_from reader (Some []) lines) (read_from reader None lines)

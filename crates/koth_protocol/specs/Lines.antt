@@ -12,7 +12,8 @@ abbrev pub without_dot : List ℕ → List ℕ
 without_dot [] = []
 without_dot (b ∷ bs) = if b == 46 then bs else b ∷ bs
 
--- the lines of these bytes after the beginning of a line; each ends with a line feed (byte 10), and a last one without it is none
+-- the lines of these bytes after the beginning of a line; each ends with a line feed (byte 10), and a last one without
+-- it is none
 abbrev pub lines_from : List ℕ → List ℕ → List (List ℕ)
 lines_from line [] = []
 lines_from line (b ∷ bs) = if b == 10 then without_return line ∷ lines_from [] bs else lines_from (line ++ b ∷ []) bs

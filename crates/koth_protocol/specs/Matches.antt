@@ -18,7 +18,8 @@ places_for rounds = max (length (decimal rounds)) 2
 abbrev pub cell : ℕ → List ℕ → List ℕ
 cell places text = codes " " ++ right places text
 
--- the rounds that one entry won against another, by the result that is kept of the two: the earlier entry is the older warrior
+-- the rounds that one entry won against another, by the result that is kept of the two: the earlier entry is the older
+-- warrior
 abbrev pub rounds_won : Kept → ℕ → ℕ → ℕ
 rounds_won k one other =
     if nat_lt one other then (or_no_rounds (result_of (entries_of k.members) k.results one other)).older_wins

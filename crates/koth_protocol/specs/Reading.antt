@@ -25,7 +25,8 @@ commands_met reader met.Quit bytes others = Command.Quit ∷ []
 commands_met reader met.Request bytes others = from_request reader others
 commands_met reader met.Bad bytes others = Command.Bad ∷ others
 
--- what a byte makes of a reading: the commands of the bytes from it on are the one that was met, and those of the reading after it
+-- what a byte makes of a reading: the commands of the bytes from it on are the one that was met, and those of the
+-- reading after it
 pub record Reads {A : Type 0} (line : List ℕ) (source : Option (List ℕ)) (byte : ℕ) (met : Met) (script : Script A) : Type 0 where
   pub new_line : List ℕ
   pub new_source : Option (List ℕ)

@@ -20,6 +20,7 @@ is_request line = names_method (take 8 line) || names_host (take 8 line)
 abbrev pub is_sent : ℕ → Bool
 is_sent byte = not (is_ascii_control byte) || (byte == 9 || byte == 13)
 
--- No author sends such a line: it begins as a request of HTTP does, or has another control byte among its first 256 bytes, as a record of TLS has.
+-- No author sends such a line: it begins as a request of HTTP does, or has another control byte among its first 256
+-- bytes, as a record of TLS has.
 abbrev pub is_foreign : List ℕ → Bool
 is_foreign line = is_request line || not (list_all is_sent (take 256 line))

@@ -6,8 +6,8 @@ ghost use Rattle.koth_protocol.specs.Kept.{kept};
 use std::alloc::{AllocError, Allocator};
 use std::marker::Model;
 
-/// Bytes that are kept. 65,537 bytes are enough to refuse a source. Three more leave room for what a line loses before it
-/// enters its source, its dot and its carriage return. So what is cut off after them changes no answer.
+/// Bytes that are kept. 65,537 bytes are enough to refuse a source. Three more leave room for what a line loses before
+/// it enters its source, its dot and its carriage return. So what is cut off after them changes no answer.
 const ROOM: usize = 65_540;
 
 /// The first 65,540 bytes of what was put in.

@@ -7,8 +7,9 @@ use itoa::Buffer;
 use koth_hill::{Hill, Row};
 use std::alloc::{AllocError, Allocator};
 
-/// A line with the ranks, and then a line for each warrior on the hill, by rank: in the column of each other the rounds that it won
-/// against that one, as the hill keeps them, and `-` in its own. No match is fought. A hill without warriors has the first line alone.
+/// A line with the ranks, and then a line for each warrior on the hill, by rank: in the column of each other the rounds
+/// that it won against that one, as the hill keeps them, and `-` in its own. No match is fought. A hill without
+/// warriors has the first line alone.
 pub fn matches_text<A: Allocator + Copy, B: Allocator>(
     alloc: A,
     hill: &Hill<B>,
@@ -53,7 +54,8 @@ fn put_lines<A: Allocator, B: Allocator>(
     hill: &Hill<B>,
     rows: &[Row<'_>],
 ) -> Result<(), AllocError>
-    ensures { OnOk result (text.new.items ≡ text.old.items ++ entry_lines hill.now places (entries_shown (rows_parts rows.now))) }
+    ensures { OnOk result (text.new.items ≡ text.old.items
+        ++ entry_lines hill.now places (entries_shown (rows_parts rows.now))) }
 {
     for place in 0..rows.len() {
         put_line(
@@ -77,7 +79,8 @@ fn put_line<A: Allocator, B: Allocator>(
     rank: u64,
     one: u64,
 ) -> Result<(), AllocError>
-    ensures { OnOk result (text.new.items ≡ text.old.items ++ entry_line hill.now places (entries_shown (rows_parts rows.now)) rank one) }
+    ensures { OnOk result (text.new.items ≡ text.old.items
+        ++ entry_line hill.now places (entries_shown (rows_parts rows.now)) rank one) }
 {
     let mut buffer = Buffer::new();
     put_right(text, 2, buffer.format(rank).as_bytes())?;
@@ -143,7 +146,7 @@ fn put_cell<A: Allocator>(
     put_right(text, places, part)
 }
 
-/// Puts a part at the right of `places` places; a longer part stands as it is.
+/// Puts a part at the right of `places` places; a longer part is as it is.
 fn put_right<A: Allocator>(
     text: &mut Vec<u8, A>,
     places: usize,

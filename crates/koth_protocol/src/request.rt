@@ -12,7 +12,8 @@ const HOST: usize = 5;
 /// The bytes of a line among which a control byte tells that no author sent it.
 const LOOKED_AT: usize = 256;
 
-/// Whether no author sends such a line: it begins as a request of HTTP does, or has a control byte among its first bytes, as a record of TLS has.
+/// Whether no author sends such a line: it begins as a request of HTTP does, or has a control byte among its first
+/// bytes, as a record of TLS has.
 pub(crate) fn is_foreign(line: &[u8]) -> bool
     ensures { result ≡ is_foreign line.now }
 {

@@ -10,7 +10,7 @@ use std::alloc::{AllocError, Allocator};
 /// Bytes of a source that are passed on at most: one more than a source may have.
 const SOURCE_KEPT: usize = 65_537;
 
-/// What a line asks for if a command is due.
+/// What a line asks for if a command is pending.
 #[derive(Clone, Copy, PartialEq, Eq)]
 pub(crate) enum Word {
     Submit,
@@ -38,7 +38,7 @@ pub enum Met {
     Bad,
 }
 
-/// What was read of a line, and of the source that is under way.
+/// What was read of a line, and of the source that is in progress.
 #[derive(Drop)]
 pub struct Script<A: Allocator> {
     line: Kept<A>,
@@ -62,7 +62,8 @@ impl<A: Allocator + Copy> Script<A> {
 impl<A: Allocator> Script<A> {
     /// Takes the next byte, and says what it brought to its end.
     pub fn take(&mut self, byte: u8) -> Met
-        ensures { (line : List ℕ) → (source : Option (List ℕ)) → IsReading self.old line source → Reads line source byte result self.new }
+        ensures { (line : List ℕ) → (source : Option (List ℕ)) → IsReading self.old line source
+            → Reads line source byte result self.new }
     {
         if byte == b'\n' {
             self.end_line()
@@ -81,7 +82,8 @@ impl<A: Allocator> Script<A> {
     }
 
     fn end_line(&mut self) -> Met
-        ensures { (line : List ℕ) → (source : Option (List ℕ)) → IsReading self.old line source → Reads line source 10 result self.new }
+        ensures { (line : List ℕ) → (source : Option (List ℕ)) → IsReading self.old line source
+            → Reads line source 10 result self.new }
     {
         if self.in_source {
             self.end_source_line()
@@ -92,7 +94,8 @@ impl<A: Allocator> Script<A> {
 
     fn end_command_line(&mut self) -> Met
         requires { self.old.in_source ≡ false }
-        ensures { (line : List ℕ) → (source : Option (List ℕ)) → IsReading self.old line source → Reads line source 10 result self.new }
+        ensures { (line : List ℕ) → (source : Option (List ℕ)) → IsReading self.old line source
+            → Reads line source 10 result self.new }
     {
         let line = without_return(self.line.as_slice());
         let met = take_command_line(&mut self.source, &mut self.in_source, line);
@@ -102,7 +105,8 @@ impl<A: Allocator> Script<A> {
 
     fn end_source_line(&mut self) -> Met
         requires { self.old.in_source ≡ true }
-        ensures { (line : List ℕ) → (source : Option (List ℕ)) → IsReading self.old line source → Reads line source 10 result self.new }
+        ensures { (line : List ℕ) → (source : Option (List ℕ)) → IsReading self.old line source
+            → Reads line source 10 result self.new }
     {
         let line = without_return(self.line.as_slice());
         let met = take_source_line(&mut self.source, &mut self.in_source, line);
@@ -111,7 +115,7 @@ impl<A: Allocator> Script<A> {
     }
 }
 
-/// Takes a line while a command is due.
+/// Takes a line while a command is pending.
 fn take_command_line<A: Allocator>(source: &mut Kept<A>, in_source: &mut bool, line: &[u8]) -> Met
     requires { in_source.old ≡ false }
     ensures { TakesCommand line.now result in_source.new source.new }
@@ -129,7 +133,7 @@ fn take_command_line<A: Allocator>(source: &mut Kept<A>, in_source: &mut bool, l
     }
 }
 
-/// Takes a line of the source that is under way.
+/// Takes a line of the source that is in progress.
 fn take_source_line<A: Allocator>(source: &mut Kept<A>, in_source: &mut bool, line: &[u8]) -> Met
     requires { in_source.old ≡ true }
     ensures { TakesSourceLine line.now source.old result in_source.new source.new }

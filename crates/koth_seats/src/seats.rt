@@ -1,4 +1,4 @@
-//! What is kept of each peer beside its session. Times are in milliseconds, by the clock of the sockets.
+//! What is kept of each peer next to its session. Times are in milliseconds, by the clock of the sockets.
 
 ghost use Rattle.std.specs.Prelude.{◌≡◌, ◌↔◌, ◌-◌, ◌≤◌, ◌<◌, ℕ, IsTrue, IfOk, None, Some, length, option_copied};
 ghost use Rattle.koth_seats.specs.Seats.{seat_at, seat_drained, seat_heard, seat_map, seat_new, seat_served, seat_told, IsPatienceOver, IsUnused, OnlySeat, SeatMoves};
@@ -29,7 +29,7 @@ pub struct Seat {
     pub draining: Option<Draining>,
 }
 
-/// What still comes of a peer whose writing side is shut.
+/// What still comes from a peer whose writing side is shut.
 #[derive(Clone, Copy)]
 pub struct Draining {
     /// When the writing side was shut.
@@ -46,7 +46,7 @@ impl Seat {
         now.saturating_sub(self.active) >= PATIENCE
     }
 
-    /// Whether the peer may be disconnected for another, if no command of it is due.
+    /// Whether the peer may be disconnected for another, if no command of it is pending.
     pub fn is_unused(&self, now: u64) -> bool
         ensures { IsTrue result ↔ IsUnused UNSPOKEN UNUSED now self.now.has_spoken self.now.useful }
     {
@@ -119,7 +119,8 @@ impl<A: Allocator> Seats<A> {
     /// Puts a peer on a seat, if there is one of this number.
     pub fn sit(&mut self, number: usize, address: SocketAddr, now: u64)
         ensures only { OnlySeat number self.old.seats.items self.new.seats.items }
-        ensures at { number < length self.old.seats.items → seat_at self.new.seats.items number ≡ Some (seat_new address now) }
+        ensures at { number < length self.old.seats.items
+            → seat_at self.new.seats.items number ≡ Some (seat_new address now) }
     {
         if number < self.seats.len() {
             self.seats[number] = Some(Seat {
@@ -178,8 +179,8 @@ impl<A: Allocator> Seats<A> {
         }
     }
 
-    /// Milliseconds until the first peer has been waited for as long as it may be, and no more than a peer may be silent. If no seat is free,
-    /// it is no longer than until the first peer may be disconnected for another.
+    /// Milliseconds until the first peer has been waited for as long as it may be, and no more than a peer may be
+    /// silent. If no seat is free, it is no longer than until the first peer may be disconnected for another.
     pub fn until(&self, now: u64) -> u64 {
         let mut least = PATIENCE;
         let mut first_unused = PATIENCE;

@@ -6,8 +6,8 @@ pub const PATIENCE: u64 = 60_000;
 /// How long a peer of which no byte came keeps its place, if all places are taken and another peer waits.
 pub const UNSPOKEN: u64 = 2_000;
 
-/// How long a peer keeps its place after its last whole line, and after its last command that was carried out, if all places are taken and
-/// another peer waits.
+/// How long a peer keeps its place after its last whole line, and after its last command that was carried out, if all
+/// places are taken and another peer waits.
 pub const UNUSED: u64 = 60_000;
 
 /// How long a browser of which no byte came keeps its slot, if all slots are taken and another browser waits.
@@ -31,7 +31,7 @@ pub const ASKING: u64 = 10_000;
 /// How long a browser waits for its answer at most, and how long it may take until that went out.
 pub const ANSWERING: u64 = 60_000;
 
-/// How long others are served at most until a submission that is under way has its next step.
+/// How long others are served at most until a submission in progress has its next step.
 pub const SHARE: u64 = 20;
 
 /// How long a step of a submission may take: one that took longer is followed by one of half as many turns.

@@ -9,7 +9,8 @@ use koth_http::{Asked, Refusal, Visit, page_response, refusal_response};
 use sector_disk::Device;
 use std::alloc::{AllocError, Allocator};
 
-/// The answer to what the bytes of a connection ask, once that is known. `AllocError` comes if there is no memory for it.
+/// The answer to what the bytes of a connection ask, once that is known. `AllocError` comes if there is no memory for
+/// it.
 pub(crate) fn answer_visit<D: Device, A: Allocator + Copy, H: Host<D, A>>(
     alloc: A,
     store: &Store<D, A>,
@@ -24,8 +25,9 @@ pub(crate) fn answer_visit<D: Device, A: Allocator + Copy, H: Host<D, A>>(
     }
 }
 
-/// The answer to what a browser asks: the page that it asks for, of the hill that stands now, or that there is no such page, or no memory
-/// for it. A request that asks for no page is answered by why it doesn't. `AllocError` comes if there is no memory for the answer.
+/// The answer to what a browser asks: the page that it asks for, of the hill that stands now, or that there is no such
+/// page, or no memory for it. A request that asks for no page is answered by why it doesn't. `AllocError` comes if
+/// there is no memory for the answer.
 fn answer<D: Device, A: Allocator + Copy, H: Host<D, A>>(
     alloc: A,
     store: &Store<D, A>,

@@ -29,7 +29,8 @@ pub(crate) enum Place {
     Nowhere,
 }
 
-/// Takes the connections that wait, unless there is no place for one more, or as many sessions have begun as are asked for: then they wait on.
+/// Takes the connections that wait, unless there is no place for one more, or as many sessions have begun as are asked
+/// for: then they wait on.
 pub(crate) fn take_arrivals<S: Sockets, D: Device, A: Allocator + Copy, H: Host<D, A>, E: LogWrite>(
     desk: &mut Desk<D, A>,
     sockets: &mut S,
@@ -58,8 +59,8 @@ pub(crate) fn take_arrivals<S: Sockets, D: Device, A: Allocator + Copy, H: Host<
     }
 }
 
-/// The place that one more peer would be given: if none is free, that of the peer that has gone longest without a whole line, of those that
-/// have no command due and may be disconnected for another.
+/// The place that one more peer would be given: if none is free, that of the peer that has gone longest without a whole
+/// line, of those that have no command due and may be disconnected for another.
 fn place_for_one<D: Device, A: Allocator + Copy>(desk: &Desk<D, A>) -> Place
     ensures { MayGive result desk.now }
 {
@@ -84,7 +85,8 @@ fn with_longest<D: Device, A: Allocator + Copy>(
     seat: Seat,
 ) -> Option<(usize, u64)>
     requires { seat_at desk.now.seats.seats.items number ≡ Some seat }
-    ensures { IsLongestUpTo (MayLeaveSince desk.now) number longest → IsLongestUpTo (MayLeaveSince desk.now) (number + 1) result }
+    ensures { IsLongestUpTo (MayLeaveSince desk.now) number longest
+        → IsLongestUpTo (MayLeaveSince desk.now) (number + 1) result }
 {
     if may_leave(desk, number, seat) {
         longer(longest, number, seat.useful)
@@ -93,15 +95,16 @@ fn with_longest<D: Device, A: Allocator + Copy>(
     }
 }
 
-/// Whether a peer may be disconnected for another: its session goes on or answers to it are unsent, no command of it is due, and it is of no
-/// use.
+/// Whether a peer may be disconnected for another: its session goes on or answers to it are unsent, no command of it is
+/// pending, and it is of no use.
 fn may_leave<D: Device, A: Allocator + Copy>(desk: &Desk<D, A>, number: usize, seat: Seat) -> bool
     ensures { IsTrue result ↔ MayLeave number seat desk.now }
 {
     seat.is_unused(desk.clock) && !desk.peers.is_due(number) && !desk.peers.is_finished(number)
 }
 
-/// Begins a session with the peer that was accepted, at this place. It is refused if as many peers of its host are there as may be.
+/// Begins a session with the peer that was accepted, at this place. It is refused if as many peers of its host are
+/// there as may be.
 fn take_in_one<S: Sockets, D: Device, A: Allocator + Copy, H: Host<D, A>, E: LogWrite>(
     desk: &mut Desk<D, A>,
     sockets: &mut S,

@@ -1,5 +1,6 @@
-//! What each browser asks, and the answer to it. Whatever the sockets say of a browser, it goes on as `served` says of the whole service.
-//! Each function says so of the connections that it moves, however the peers and the other browsers stand.
+//! What each browser asks, and the answer to it. Whatever the sockets say of a browser, it goes on as `served` says of
+//! the whole service. Each function says so of the connections that it moves, however the peers and the other browsers
+//! are.
 #![tactic(auto, using(crate::proofs::Told::stays))]
 
 ghost use Rattle.std.specs.Prelude.{◌≡◌, ◌&&◌, not, length};
@@ -29,7 +30,8 @@ pub(crate) struct BrowsersRound {
     pub(crate) has_answered: bool,
 }
 
-/// When connections are moved on, in milliseconds, whether a request may be answered, and how many browsers of one address there may be.
+/// When connections are moved on, in milliseconds, whether a request may be answered, and how many browsers of one
+/// address there may be.
 #[derive(Clone, Copy)]
 pub(crate) struct Pass {
     pub(crate) now: u64,
@@ -49,8 +51,9 @@ impl Pass {
     }
 }
 
-/// Takes a connection of a browser that waits, and moves each connection on. One request is answered at most, if one may be: the others wait for
-/// their turn, since a page takes time in which no peer is served. The host reports that request.
+/// Takes a connection of a browser that waits, and moves each connection on. One request is answered at most, if one
+/// may be: the others wait for their turn, since a page takes time in which no peer is served. The host reports that
+/// request.
 pub(crate) fn serve_browsers<
     S: Sockets,
     D: Device,
@@ -65,7 +68,9 @@ pub(crate) fn serve_browsers<
     errors: &mut E,
     pass: Pass,
 ) -> BrowsersRound
-    ensures served { BrowsersShownAt S.happened D.facts (H.shows host.now) store.now pass.now pass.may_answer sockets.old browsers.old result.has_answered sockets.new browsers.new }
+    ensures served { BrowsersShownAt S.happened D.facts
+        (H.shows host.now) store.now pass.now pass.may_answer sockets.old browsers.old result.has_answered sockets.new
+        browsers.new }
     ensures slots { length browsers.new.connections.items ≡ length browsers.old.connections.items }
     ensures told { Grows (E.contents errors.old) (E.contents errors.new) }
 {
@@ -87,7 +92,8 @@ pub(crate) fn serve_browsers<
     round
 }
 
-/// Moves the connection of this number on, if there is one, and returns whether anything came or went, and whether its request was answered.
+/// Moves the connection of this number on, if there is one, and returns whether anything came or went, and whether its
+/// request was answered.
 fn move_on<S: Sockets, D: Device, A: Allocator + Copy, H: Host<D, A>, E: LogWrite>(
     browsers: &mut Browsers<A>,
     sockets: &mut S,
@@ -97,7 +103,9 @@ fn move_on<S: Sockets, D: Device, A: Allocator + Copy, H: Host<D, A>, E: LogWrit
     number: usize,
     pass: Pass,
 ) -> BrowsersRound
-    ensures served { BrowsersShown S.happened D.facts (H.shows host.now) store.now pass.may_answer sockets.old browsers.old result.has_answered sockets.new browsers.new }
+    ensures served { BrowsersShown S.happened D.facts
+        (H.shows host.now) store.now pass.may_answer sockets.old browsers.old result.has_answered sockets.new
+        browsers.new }
     ensures slots { length browsers.new.connections.items ≡ length browsers.old.connections.items }
     ensures told { Grows (E.contents errors.old) (E.contents errors.new) }
 {

@@ -109,8 +109,8 @@ impl<A: Allocator> Browsers<A> {
         self.connections[number] = Some(connection);
     }
 
-    /// The number that one more browser would be given: the least that no connection has, or if none is free, that of the connection that has
-    /// waited longest for its request, of those that may lose their slots.
+    /// The number that one more browser would be given: the least that no connection has, or if none is free, that of
+    /// the connection that has waited longest for its request, of those that may lose their slots.
     pub(crate) fn slot_for_one(&self, now: u64) -> Option<usize>
         ensures { MayGiveSlot result now self.now.connections.items }
     {
@@ -140,8 +140,8 @@ impl<A: Allocator> Browsers<A> {
         count
     }
 
-    /// Milliseconds until the first connection has been waited for as long as it may be. If no slot is free, it is no longer than until the first
-    /// one may be given to another.
+    /// Milliseconds until the first connection has been waited for as long as it may be. If no slot is free, it is no
+    /// longer than until the first one may be given to another.
     pub(crate) fn until(&self, now: u64) -> u64 {
         let mut least = ANSWERING;
         let mut first_lost = ANSWERING;

@@ -26,7 +26,7 @@ pub(crate) struct Desk<D: Device, A: Allocator + Copy> {
     pub(crate) judge: Judge<D, A>,
     pub(crate) seats: Seats<A>,
     pub(crate) sessions: Sessions,
-    /// Whether something came or went in this round: then more may, and nobody is waited for.
+    /// Whether something came or went in this round: then more may, and no one is waited for.
     pub(crate) is_busy: bool,
     /// Whether an accept failed in this round, of a peer or of a browser.
     pub(crate) retries: bool,
@@ -37,7 +37,7 @@ pub(crate) struct Desk<D: Device, A: Allocator + Copy> {
     pub(crate) shares: DeskShares,
 }
 
-/// The shares of the submission that is under way, and of browsers, in milliseconds.
+/// The shares of the current submission, and of browsers, in milliseconds.
 #[derive(Clone, Copy, Drop)]
 pub(crate) struct DeskShares {
     /// When a submission was begun or fought on last.
@@ -51,7 +51,7 @@ pub(crate) struct DeskShares {
 }
 
 impl DeskShares {
-    /// Whether the submission that is under way has its share now.
+    /// Whether the current submission has its share now.
     pub(crate) fn has_share(self, now: u64) -> bool
         ensures { result ≡ nat_le SHARE (now - self.stepped_at) }
     {
@@ -66,7 +66,7 @@ impl DeskShares {
         self.turns = turns_after(now.saturating_sub(before), self.turns);
     }
 
-    /// The time is told again, and was `before` until now. Since then a browser was answered or not.
+    /// The time is read again, and was `before` until now. Since then a browser was answered or not.
     pub(crate) fn tell(&mut self, has_answered: bool, before: u64, now: u64)
         ensures { shares_of self.new ≡ shares_at before now (shares_by has_answered (shares_of self.old)) }
     {
@@ -127,7 +127,8 @@ impl<D: Device, A: Allocator + Copy> Desk<D, A> {
         }
     }
 
-    /// Whether a browser may be answered now: as much time has gone by as the last answer took, or no command may be carried out.
+    /// Whether a browser may be answered now: as much time has gone by as the last answer took, or no command may be
+    /// carried out.
     pub(crate) fn may_show(&self) -> bool
         ensures { result ≡ true → MayShow (peers_of self.now) }
     {
@@ -152,7 +153,8 @@ impl<D: Device, A: Allocator + Copy> Desk<D, A> {
         requires next { peers.next ≡ first_turn }
         requires sound { store.reopen ≡ false }
         ensures begun { IfOk result IsBegun }
-        ensures start { IfOk result (λ desk. start_at desk ≡ start_of store (length peers.slots.items) limits.browsers) }
+        ensures start { IfOk result (λ desk. start_at desk
+            ≡ start_of store (length peers.slots.items) limits.browsers) }
         ensures limits { IfOk result (λ desk. desk.limits ≡ limits) }
     {
         match Seats::new(alloc, limits.peers) {
@@ -178,7 +180,7 @@ impl<D: Device, A: Allocator + Copy> Desk<D, A> {
     }
 }
 
-/// Disconnects a peer, however its session stands: its socket is closed, and its number is free.
+/// Disconnects a peer, however its session is: its socket is closed, and its number is free.
 pub(crate) fn let_go<S: Sockets, D: Device, A: Allocator + Copy, H: Host<D, A>, E: LogWrite>(
     desk: &mut Desk<D, A>,
     sockets: &mut S,
@@ -187,7 +189,8 @@ pub(crate) fn let_go<S: Sockets, D: Device, A: Allocator + Copy, H: Host<D, A>, 
     number: usize,
     how: HowEnded,
 )
-    ensures served { LeavesFor S.happened D.facts (H.shows host.now) number how sockets.old desk.old sockets.new desk.new }
+    ensures served { LeavesFor S.happened D.facts
+        (H.shows host.now) number how sockets.old desk.old sockets.new desk.new }
     ensures others { OthersStay number desk.old desk.new }
     ensures free { seat_at desk.new.seats.seats.items number ≡ None }
     ensures told { Grows (E.contents errors.old) (E.contents errors.new) }

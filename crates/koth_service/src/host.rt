@@ -20,7 +20,8 @@ pub enum HowEnded {
     Silent,
     /// The peer sent a line in place of a command that no author sends: a request of HTTP, or one with a control byte.
     Browser,
-    /// All places were taken and another peer waited: of the peers without a command that is due this one had gone longest without a whole line.
+    /// All places were taken and another peer waited: of the peers without a pending command this one had gone longest
+    /// without a whole line.
     Displaced,
     /// The peer is gone.
     Gone,
@@ -31,8 +32,8 @@ pub enum HowEnded {
 pub enum WhyUnasked {
     /// As many browsers of its address are there as may be.
     Refused,
-    /// All slots were taken and another browser waited: of those from which no byte came for 0.25 seconds, or whose requests weren't whole after
-    /// 2, this one had waited longest.
+    /// All slots were taken and another browser waited: of those from which no byte came for 0.25 seconds, or whose
+    /// requests weren't whole after 2, this one had waited longest.
     Displaced,
     /// Its request was not whole after 10 seconds.
     Late,
@@ -79,7 +80,7 @@ pub trait Host<D: Device, A: Allocator> {
         ensures open_now { IfOk result (λ store. store.reopen ≡ false) }
         ensures again { IfOk result (OpensAgain D.facts device) };
 
-    /// The names of the hill's machine that requests of browsers may be for, beside its addresses and `localhost`.
+    /// The names of the hill's machine that requests of browsers may be for, besides its addresses and `localhost`.
     fn names(&self) -> &[&str]
         ensures { (store : Seen D) → map (λ name. name.now) result.now ≡ (Self.shows self.now store).names };
 
@@ -87,7 +88,8 @@ pub trait Host<D: Device, A: Allocator> {
     fn steps(&self) -> u64
         ensures { (store : Seen D) → result ≡ (Self.shows self.now store).steps };
 
-    /// The text of a page of the store's hill, HTML in ASCII, or none if there is no such page. `AllocError` comes if memory ran out.
+    /// The text of a page of the store's hill, HTML in ASCII, or none if there is no such page. `AllocError` comes if
+    /// memory ran out.
     fn page(&self, store: &Store<D, A>, page: Page) -> Result<Option<Vec<u8, A>>, AllocError>
         ensures { IfOk result (IsFound ((Self.shows self.now store.now).pages page)) };
 

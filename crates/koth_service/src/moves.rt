@@ -58,7 +58,8 @@ pub(crate) fn after_stage<S: Sockets, D: Device, A: Allocator + Copy, H: Host<D,
     stage: Stage<A>,
     may_answer: bool,
 ) -> Moved<A>
-    ensures { ShownOn S.happened D.facts (H.shows host.now) store.now may_answer number sockets.old (Some stage) (is_answered result) sockets.new (Some (stage_after result)) }
+    ensures { ShownOn S.happened D.facts (H.shows host.now) store.now may_answer number sockets.old (Some stage)
+        (is_answered result) sockets.new (Some (stage_after result)) }
 {
     match stage {
         Stage::Asking(visit, since) => read::<S, D, A, H>(sockets, host, number, visit, since),
@@ -83,7 +84,9 @@ fn read<S: Sockets, D: Device, A: Allocator, H: Host<D, A>>(
     since: u64,
 ) -> Moved<A>
     ensures quiet { is_answered result ≡ false }
-    ensures moves { (store : Seen D) (host : H) → MovesOn S.happened D.facts (H.shows host) store number sockets.old (Some (stages.Asking visit since)) sockets.new (Some (stage_after result)) }
+    ensures moves { (store : Seen D) (host : H)
+        → MovesOn S.happened D.facts (H.shows host) store number sockets.old
+        (Some (stages.Asking visit since)) sockets.new (Some (stage_after result)) }
 {
     let mut visit = visit;
     let mut chunk = [0; CHUNK];
@@ -108,7 +111,8 @@ fn answer<S: Sockets, D: Device, A: Allocator + Copy, H: Host<D, A>>(
     host: &H,
     visit: Visit<A>,
 ) -> Moved<A>
-    ensures { (sockets : S) (n : ℕ) → ShownOn S.happened D.facts (H.shows host.now) store.now true n sockets (Some (stages.Asked visit)) (is_answered result) sockets (Some (stage_after result)) }
+    ensures { (sockets : S) (n : ℕ) → ShownOn S.happened D.facts (H.shows host.now) store.now true n sockets
+        (Some (stages.Asked visit)) (is_answered result) sockets (Some (stage_after result)) }
 {
     match answer_visit(alloc, store, host, &visit) {
         Ok(Some(answer)) => Moved::Answered(visit, Unsent::new(answer)),
@@ -124,7 +128,9 @@ fn write<S: Sockets, D: Device, A: Allocator, H: Host<D, A>>(
     unsent: Unsent<A>,
 ) -> Moved<A>
     ensures quiet { is_answered result ≡ false }
-    ensures moves { (store : Seen D) (host : H) → MovesOn S.happened D.facts (H.shows host) store number sockets.old (Some (stages.Answering unsent)) sockets.new (Some (stage_after result)) }
+    ensures moves { (store : Seen D) (host : H)
+        → MovesOn S.happened D.facts (H.shows host) store number sockets.old
+        (Some (stages.Answering unsent)) sockets.new (Some (stage_after result)) }
 {
     let mut unsent = unsent;
     let bytes = unsent.as_slice();
@@ -148,7 +154,9 @@ fn drain<S: Sockets, D: Device, A: Allocator, H: Host<D, A>>(
     number: usize,
 ) -> Moved<A>
     ensures quiet { is_answered result ≡ false }
-    ensures moves { (store : Seen D) (host : H) → MovesOn S.happened D.facts (H.shows host) store number sockets.old (Some stages.Parting) sockets.new (Some (stage_after result)) }
+    ensures moves { (store : Seen D) (host : H)
+        → MovesOn S.happened D.facts (H.shows host) store number sockets.old (Some stages.Parting) sockets.new
+        (Some (stage_after result)) }
 {
     let mut chunk = [0; CHUNK];
     match sockets.read_browser(number, &mut chunk) {

@@ -31,7 +31,8 @@ pub(crate) fn part_all<S: Sockets, D: Device, A: Allocator + Copy, H: Host<D, A>
     }
 }
 
-/// Shuts a peer that is finished, and disconnects one that was shut or silent for long enough, or that reads none of its answers.
+/// Shuts a peer that is finished, and disconnects one that was shut or silent for long enough, or that reads none of
+/// its answers.
 fn part<S: Sockets, D: Device, A: Allocator + Copy, H: Host<D, A>, E: LogWrite>(
     desk: &mut Desk<D, A>,
     sockets: &mut S,
@@ -88,7 +89,8 @@ fn shut<S: Sockets, D: Device, A: Allocator + Copy, H: Host<D, A>>(
     desk.is_busy = true;
 }
 
-/// Throws away what still comes from a peer that was shut, and disconnects it after a while. Its session has ended in this way.
+/// Throws away what still comes from a peer that was shut, and disconnects it after a while. Its session has ended in
+/// this way.
 fn drain_on<S: Sockets, D: Device, A: Allocator + Copy, H: Host<D, A>, E: LogWrite>(
     desk: &mut Desk<D, A>,
     sockets: &mut S,
@@ -115,8 +117,8 @@ fn drain_on<S: Sockets, D: Device, A: Allocator + Copy, H: Host<D, A>, E: LogWri
     }
 }
 
-/// Throws away what still comes from a peer that was shut. It returns how that stands, or nothing if the peer's bytes are at their end, or it
-/// was waited for long enough.
+/// Throws away what still comes from a peer that was shut. It returns how that is, or nothing if the peer's bytes are
+/// at their end, or it was waited for long enough.
 fn drained<S: Sockets>(
     sockets: &mut S,
     number: usize,

@@ -41,7 +41,8 @@ fn read_from<S: Sockets, D: Device, A: Allocator + Copy, H: Host<D, A>, E: LogWr
     chunk: &mut [u8; CHUNK],
 )
     ensures served { KeepsOn S.happened D.facts (H.shows host.now) sockets.old desk.old sockets.new desk.new }
-    ensures looked { may_come_at desk.old.peers.slots.items number ≡ 0 → IsLookedAt S.happened number sockets.old desk.old sockets.new desk.new }
+    ensures looked { may_come_at desk.old.peers.slots.items number ≡ 0
+        → IsLookedAt S.happened number sockets.old desk.old sockets.new desk.new }
     ensures told { Grows (E.contents errors.old) (E.contents errors.new) }
 {
     let room = desk.peers.room(number);

@@ -23,8 +23,8 @@ use koth_session::{Judge, Step};
 use sector_disk::Device;
 use std::alloc::{AllocError, Allocator};
 
-/// Commands that are carried out, and steps of a submission that are made, in one round at most: the steps of one to a full hill, if each match
-/// is a step.
+/// Commands that are carried out, and steps of a submission that are made, in one round at most: the steps of one to a
+/// full hill, if each match is a step.
 const STEPS: u32 = 22;
 
 /// Why a service ended early.
@@ -38,16 +38,17 @@ pub enum ServiceFault<F> {
     Rounds,
 }
 
-/// Serves peers and browsers on a hill, as many at once as the limits allow; returns after as many sessions as they name, if they do.
+/// Serves peers and browsers on a hill, as many at once as the limits allow; returns after as many sessions as they
+/// name, if they do.
 ///
 /// A peer that connects while all places are taken waits until one is free. The place of a peer that makes no use of it
-/// is given to the one that waits: of those without a command that is due, the one that has gone longest without a
-/// whole line, if that is 60 seconds, or 2 if no byte of it came. A peer is disconnected when its session has ended and
-/// its answers went out, 60 seconds after the last byte in or out unless a command of it is due, as soon as its answers
+/// is given to the one that waits: of those without a pending command, the one that has gone longest without a whole
+/// line, if that is 60 seconds, or 2 if no byte of it came. A peer is disconnected when its session has ended and its
+/// answers went out, 60 seconds after the last byte in or out unless a command of it is pending, as soon as its answers
 /// have no room, or at a request of HTTP in place of a command: no command after that is carried out. If the device
 /// fails in a submission, the store is closed, and the host opens the hill again. Submissions are fought one after
 /// another, in steps: between two of these other commands are carried out, and sources of other peers are refused, or
-/// put off if they give a warrior. Beside the peers browsers are served: each is answered one request, with a page of
+/// put off if they give a warrior. Besides the peers browsers are served: each is answered one request, with a page of
 /// the hill that stands then. `history` speaks of peers and of browsers, and `served` says that one history has all
 /// three.
 pub fn serve_peers<S: Sockets, D: Device + Drop, A: Allocator + Copy, H: Host<D, A>, E: LogWrite>(
@@ -76,7 +77,7 @@ pub fn serve_peers<S: Sockets, D: Device + Drop, A: Allocator + Copy, H: Host<D,
     }
 }
 
-/// Serves the peers of a desk at which nobody is yet, and browsers.
+/// Serves the peers of a desk at which no one is yet, and browsers.
 fn serve_at<S: Sockets, D: Device + Drop, A: Allocator + Copy, H: Host<D, A>, E: LogWrite>(
     alloc: A,
     sockets: &mut S,
@@ -85,7 +86,8 @@ fn serve_at<S: Sockets, D: Device + Drop, A: Allocator + Copy, H: Host<D, A>, E:
     errors: &mut E,
 ) -> Result<(), ServiceFault<H::Fault>>
     requires { IsBegun desk }
-    ensures served { ServesPeers S.happened D.facts (H.shows host.now) (start_at desk) desk.limits.connections result sockets.old sockets.new }
+    ensures served { ServesPeers S.happened D.facts (H.shows host.now)
+        (start_at desk) desk.limits.connections result sockets.old sockets.new }
     ensures told { Grows (E.contents errors.old) (E.contents errors.new) }
 {
     match Browsers::new(alloc, desk.limits.browsers) {
@@ -109,7 +111,8 @@ fn serve_rounds<S: Sockets, D: Device + Drop, A: Allocator + Copy, H: Host<D, A>
     requires peers { IsBegun desk }
     requires browsers { (p : ℕ) → stage_at browsers.old.connections.items p ≡ None }
     requires slots { length browsers.old.connections.items ≡ desk.limits.browsers }
-    ensures served { ServesPeers S.happened D.facts (H.shows host.now) (start_at desk) connections result sockets.old sockets.new }
+    ensures served { ServesPeers S.happened D.facts (H.shows host.now)
+        (start_at desk) connections result sockets.old sockets.new }
     ensures told { Grows (E.contents errors.old) (E.contents errors.new) }
 {
     let mut desk = desk;
@@ -127,7 +130,8 @@ fn serve_rounds<S: Sockets, D: Device + Drop, A: Allocator + Copy, H: Host<D, A>
     Err(ServiceFault::Rounds)
 }
 
-/// Sends answers, disconnects peers, and serves browsers by their share. The time is told after that: then it says how long it took.
+/// Sends answers, disconnects peers, and serves browsers by their share. The time is read after that: then it says how
+/// long it took.
 fn give_out<S: Sockets, D: Device, A: Allocator + Copy, H: Host<D, A>, E: LogWrite>(
     desk: &mut Desk<D, A>,
     browsers: &mut Browsers<A>,
@@ -135,7 +139,8 @@ fn give_out<S: Sockets, D: Device, A: Allocator + Copy, H: Host<D, A>, E: LogWri
     host: &H,
     errors: &mut E,
 )
-    ensures served { AllGoOn S.happened D.facts (H.shows host.now) sockets.old desk.old browsers.old sockets.new desk.new browsers.new }
+    ensures served { AllGoOn S.happened D.facts
+        (H.shows host.now) sockets.old desk.old browsers.old sockets.new desk.new browsers.new }
     ensures slots { length browsers.new.connections.items ≡ length browsers.old.connections.items }
     ensures awaited { AreAwaited desk.new }
     ensures told { Grows (E.contents errors.old) (E.contents errors.new) }
@@ -156,9 +161,9 @@ fn give_out<S: Sockets, D: Device, A: Allocator + Copy, H: Host<D, A>, E: LogWri
     desk.retries |= round.retries;
 }
 
-/// Waits for peers, takes what comes from them, and carries out a command or a step of a submission, and further ones as long as the clock tells
-/// the time at which bytes were read: so short ones are made together. What came is read before a place is given to another peer: else one would
-/// lose it whose bytes wait.
+/// Waits for peers, takes what comes from them, and carries out a command or a step of a submission, and further ones
+/// as long as the clock tells the time at which bytes were read: so short ones are made together. What came is read
+/// before a place is given to another peer: else one would lose it whose bytes wait.
 fn take_in<S: Sockets, D: Device, A: Allocator + Copy, H: Host<D, A>, E: LogWrite>(
     desk: &mut Desk<D, A>,
     browsers: &Browsers<A>,
@@ -185,7 +190,7 @@ fn take_in<S: Sockets, D: Device, A: Allocator + Copy, H: Host<D, A>, E: LogWrit
     Step::Nobody
 }
 
-/// Whether a round ends with this step: nobody is served in it, a peer is disconnected, or the device failed.
+/// Whether a round ends with this step: no one is served in it, a peer is disconnected, or the device failed.
 fn ends_round(step: Step) -> bool
     ensures { result ≡ false → IsWithoutFault step }
 {
@@ -195,8 +200,8 @@ fn ends_round(step: Step) -> bool
     }
 }
 
-/// Waits until something comes or may go, but not after a round in which it did. It waits no longer than a peer may be silent or a browser is
-/// waited for.
+/// Waits until something comes or may go, but not after a round in which it did. It waits no longer than a peer may be
+/// silent or a browser is waited for.
 fn wait<S: Sockets, D: Device, A: Allocator + Copy, H: Host<D, A>>(
     desk: &mut Desk<D, A>,
     browsers: &Browsers<A>,

@@ -12,8 +12,8 @@ use sector_disk::Device;
 use std::alloc::Allocator;
 
 /// Carries out one command at most, makes a step of a submission, or puts a source off, and has the host report what a
-/// submission was answered. If the last step of the submission that is under way is `SHARE` milliseconds ago, the next
-/// one is made, whoever has the turn. A step has as many turns at most as the ones before it left time for. A peer that
+/// submission was answered. If the last step of the current submission is `SHARE` milliseconds ago, the next one is
+/// made, no matter who has the turn. A step has as many turns at most as the ones before it left time for. A peer that
 /// sent a request in place of a command is disconnected.
 pub(crate) fn serve_one<S: Sockets, D: Device, A: Allocator + Copy, H: Host<D, A>, E: LogWrite>(
     desk: &mut Desk<D, A>,

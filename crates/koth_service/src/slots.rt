@@ -24,7 +24,8 @@ pub(crate) fn admit<S: Sockets, D: Device, A: Allocator + Copy, H: Host<D, A>, E
     errors: &mut E,
     pass: Pass,
 ) -> BrowsersRound
-    ensures served { (store : Seen D) → BrowsersGoOn S.happened D.facts (H.shows host.now) store pass.now sockets.old browsers.old sockets.new browsers.new }
+    ensures served { (store : Seen D) → BrowsersGoOn S.happened D.facts
+        (H.shows host.now) store pass.now sockets.old browsers.old sockets.new browsers.new }
     ensures slots { length browsers.new.connections.items ≡ length browsers.old.connections.items }
     ensures told { Grows (E.contents errors.old) (E.contents errors.new) }
 {
@@ -63,7 +64,8 @@ fn take_in_one<S: Sockets, D: Device, A: Allocator + Copy, H: Host<D, A>, E: Log
     address: SocketAddr,
 )
     requires { MayGiveSlot (Some number) pass.now browsers.old.connections.items }
-    ensures served { (store : Seen D) → TakesInCalled S.happened D.facts (H.shows host.now) store pass.now sockets.old browsers.old sockets.new browsers.new }
+    ensures served { (store : Seen D) → TakesInCalled S.happened D.facts
+        (H.shows host.now) store pass.now sockets.old browsers.old sockets.new browsers.new }
     ensures slots { length browsers.new.connections.items ≡ length browsers.old.connections.items }
     ensures told { Grows (E.contents errors.old) (E.contents errors.new) }
 {
@@ -95,7 +97,8 @@ fn seat<S: Sockets, D: Device, A: Allocator + Copy, H: Host<D, A>, E: LogWrite>(
     address: SocketAddr,
 )
     requires { IsFree browsers.old.connections.items number }
-    ensures served { (store : Seen D) → BrowsersGoOn S.happened D.facts (H.shows host.now) store now sockets.old browsers.old sockets.new browsers.new }
+    ensures served { (store : Seen D) → BrowsersGoOn S.happened D.facts
+        (H.shows host.now) store now sockets.old browsers.old sockets.new browsers.new }
     ensures slots { length browsers.new.connections.items ≡ length browsers.old.connections.items }
     ensures told { Grows (E.contents errors.old) (E.contents errors.new) }
 {
@@ -121,7 +124,8 @@ fn begun<A: Allocator + Copy>(alloc: A, address: SocketAddr, now: u64) -> Option
     }
 }
 
-/// Puts a connection under its number. Its socket is closed if there is no connection any more: then the number stays free.
+/// Puts a connection under its number. Its socket is closed if there is no connection any more: then the number stays
+/// free.
 pub(crate) fn settle<S: Sockets, A: Allocator>(
     browsers: &mut Browsers<A>,
     sockets: &mut S,

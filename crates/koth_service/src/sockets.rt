@@ -9,7 +9,7 @@ use std::net::SocketAddr;
 pub enum Arrival {
     /// A peer or a browser, with its address: it is seated or refused next.
     Peer(SocketAddr),
-    /// Nobody waits.
+    /// No one waits.
     Nobody,
     /// It failed for now, and may be tried again.
     Failed,
@@ -52,15 +52,16 @@ pub enum Drained {
 
 /// Sockets of peers by their numbers, and of browsers by numbers of their own, none of whose calls but `wait` waits.
 pub trait Sockets {
-    // What happened on the sockets, with peers and with browsers, the latest first, as far as they keep it. A history that is true of them stays
-    // true of them as it goes on.
+    // What happened on the sockets, with peers and with browsers, the latest first, as far as they keep it. A history
+    // that is true of them stays true of them as it goes on.
     ghost happened: { Self → List Noted → Type 0 };
 
     /// Milliseconds since some moment in the past. They don't go back.
     fn now(&mut self) -> u64
         ensures { Adds Self.happened (Noted.Clock result) self.old self.new };
 
-    /// Waits until a peer can be accepted, read from or written to, and no longer than `most` milliseconds. It returns the time then, as `now`.
+    /// Waits until a peer can be accepted, read from or written to, and no longer than `most` milliseconds. It returns
+    /// the time then, as `now`.
     fn wait(&mut self, most: u64) -> u64
         ensures { Adds Self.happened (Noted.Waited result) self.old self.new };
 

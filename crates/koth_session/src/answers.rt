@@ -16,7 +16,8 @@ use sector_disk::Device;
 use std::alloc::{AllocError, Allocator};
 use war_types::AsmKind;
 
-/// Carries a command out, a source within these steps if there are any, and answers it. The reply to a submission is kept.
+/// Carries a command out, a source within these steps if there are any, and answers it. The reply to a submission is
+/// kept.
 pub(crate) fn answer<D: Device, A: Allocator + Copy>(
     alloc: A,
     due: Met,
@@ -29,7 +30,8 @@ pub(crate) fn answer<D: Device, A: Allocator + Copy>(
     requires met { is_met due ≡ true }
     requires none { reply.old ≡ None }
     ensures replied { IsReplied result outbox.old.unsent outbox.new.unsent reply.new }
-    ensures answers { AnswersPeer D.facts steps (command_due due source.now) result outbox.old.unsent store.old outbox.new.unsent store.new }
+    ensures answers { AnswersPeer D.facts steps
+        (command_due due source.now) result outbox.old.unsent store.old outbox.new.unsent store.new }
 {
     if is_submission(due) {
         submit(source, steps, outbox, reply, store)
@@ -47,7 +49,9 @@ pub(crate) fn tell<D: Device, A: Allocator + Copy>(
 ) -> Option<PeerEnd>
     requires met { is_met due ≡ true }
     requires other { is_submission due ≡ false }
-    ensures { (steps : Option ℕ) (bytes : List ℕ) → AnswersPeer D.facts steps (command_due due bytes) result outbox.old.unsent store.now outbox.new.unsent store.now }
+    ensures { (steps : Option ℕ) (bytes : List ℕ)
+        → AnswersPeer D.facts steps (command_due due bytes) result outbox.old.unsent store.now outbox.new.unsent
+        store.now }
 {
     match due {
         Met::Show => show(alloc, outbox, store),
@@ -67,7 +71,8 @@ fn submit<D: Device, A: Allocator + Copy>(
 ) -> Option<PeerEnd>
     requires { kept.old ≡ None }
     ensures replied { IsReplied result outbox.old.unsent outbox.new.unsent kept.new }
-    ensures answers { AnswersPeer D.facts steps (Command.Submit source.now) result outbox.old.unsent store.old outbox.new.unsent store.new }
+    ensures answers { AnswersPeer D.facts steps
+        (Command.Submit source.now) result outbox.old.unsent store.old outbox.new.unsent store.new }
 {
     if let Some(end) = make_room(outbox) {
         return Some(end);
@@ -78,8 +83,8 @@ fn submit<D: Device, A: Allocator + Copy>(
     }
 }
 
-/// Begins the submission of a source, once there is room and memory for the reply. If nothing is begun, `Err` says how the source ended the
-/// session, or that it was answered.
+/// Begins the submission of a source, once there is room and memory for the reply. If nothing is begun, `Err` says how
+/// the source ended the session, or that it was answered.
 pub(crate) fn begin<D: Device, A: Allocator + Copy>(
     source: &[u8],
     steps: Option<u64>,
@@ -90,7 +95,8 @@ pub(crate) fn begin<D: Device, A: Allocator + Copy>(
     ensures begun { IfOk result (IsSubmitting store.now) }
     ensures of_source { IfOk result (IsOfSource store.now.hill.settings source.now) }
     ensures same { IfOk result (λ submission. outbox.new.unsent ≡ outbox.old.unsent) }
-    ensures answers { IfErr result (λ outcome. AnswersPeer D.facts steps (Command.Submit source.now) outcome outbox.old.unsent store.now outbox.new.unsent store.now) }
+    ensures answers { IfErr result (λ outcome. AnswersPeer D.facts steps
+        (Command.Submit source.now) outcome outbox.old.unsent store.now outbox.new.unsent store.now) }
 {
     if let Some(end) = make_room(outbox) {
         return Err(Some(end));
@@ -113,7 +119,8 @@ pub(crate) fn finish<D: Device, A: Allocator + Copy>(
     requires may { MayChallenge store.old submission.warrior }
     requires verdict { judged.now ≡ verdict_kept store.old.hill submission.warrior }
     ensures { (source : List ℕ) (steps : Option ℕ) → IsOfSource store.old.hill.settings source submission
-        → AnswersPeer D.facts steps (Command.Submit source) result outbox.old.unsent store.old outbox.new.unsent store.new }
+        → AnswersPeer D.facts steps (Command.Submit source) result outbox.old.unsent store.old outbox.new.unsent
+        store.new }
 {
     if let Some(end) = make_room(outbox) {
         return Some(end);
@@ -178,7 +185,8 @@ fn show<D: Device, A: Allocator + Copy>(
     outbox: &mut Outbox<A>,
     store: &Store<D, A>,
 ) -> Option<PeerEnd>
-    ensures { (steps : Option ℕ) → AnswersPeer D.facts steps Command.Show result outbox.old.unsent store.now outbox.new.unsent store.now }
+    ensures { (steps : Option ℕ) → AnswersPeer D.facts steps Command.Show result outbox.old.unsent store.now
+        outbox.new.unsent store.now }
 {
     match table_of(alloc, store) {
         Ok(text) => say(outbox, text.as_slice()),

@@ -9,7 +9,8 @@ pub enum PeerEnd {
     EndOfInput,
     /// 16,777,216 bytes came, and each command in them was answered.
     Limit,
-    /// The next answer may have no room, since 1,048,576 bytes of answers at most may be unsent: the command was not carried out.
+    /// The next answer may have no room, since 1,048,576 bytes of answers at most may be unsent: the command was not
+    /// carried out.
     Unread,
     /// The assembly of the next source spent the steps that it may: the source was not submitted.
     StepsSpent,

@@ -1,4 +1,4 @@
-//! What came from a peer, and the command that is due.
+//! What came from a peer, and the pending command.
 
 ghost use Rattle.std.specs.Prelude.{◌≡◌, ℕ, ◌+◌, ◌<◌, ◌≤◌, true, false, [], ◌∷◌, ◌++◌, List, length, IfOk};
 ghost use Rattle.{koth_protocol.specs.Commands.{Command, Reader, kept_source}, koth_session.specs.Inbox.{is_met, is_submission, room_of, IsFollowed, IsNext, IsReadTo}};
@@ -10,7 +10,7 @@ use std::alloc::{AllocError, Allocator};
 /// The most bytes that a peer may send.
 pub(crate) const LIMIT: usize = 16_777_216;
 
-/// A peer's bytes, read up to the command that is due, and the bytes after that command.
+/// A peer's bytes, read up to the pending command, and the bytes after that command.
 #[derive(Drop)]
 pub(crate) struct Inbox<A: Allocator> {
     script: Script<A>,
@@ -56,7 +56,7 @@ impl<A: Allocator> Inbox<A> {
         self.due
     }
 
-    /// The source of the submission that is due.
+    /// The source of the pending submission.
     pub(crate) fn source(&self) -> &[u8]
         ensures { result.now ≡ kept_source self.now.script.source }
     {
@@ -66,8 +66,10 @@ impl<A: Allocator> Inbox<A> {
     /// Bytes came: they are read up to the next command, and the others wait.
     pub(crate) fn take(&mut self, bytes: &[u8])
         requires { length bytes.now ≤ room_of self.old }
-        ensures reads { (reader : Reader) (came : List ℕ) (done : List Command) → IsReadTo reader self.old came done → IsReadTo reader self.new (came ++ bytes.now) done }
-        ensures fewer { is_met self.old.due ≡ false → is_met self.new.due ≡ true → length self.new.waiting < length self.old.waiting + length bytes.now }
+        ensures reads { (reader : Reader) (came : List ℕ) (done : List Command) → IsReadTo reader self.old came done
+            → IsReadTo reader self.new (came ++ bytes.now) done }
+        ensures fewer { is_met self.old.due ≡ false → is_met self.new.due ≡ true
+            → length self.new.waiting < length self.old.waiting + length bytes.now }
         ensures due { is_met self.old.due ≡ true → self.new.due ≡ self.old.due }
         ensures source { is_met self.old.due ≡ true → self.new.script.source ≡ self.old.script.source }
     {
@@ -78,18 +80,22 @@ impl<A: Allocator> Inbox<A> {
 
     /// The command that was due was carried out, and the next one is looked for.
     pub(crate) fn pass(&mut self)
-        ensures reads { (reader : Reader) (came : List ℕ) (done : List Command) (command : Command) → IsReadTo reader self.old came done
-            → IsNext reader self.old.due self.old.script.source command → IsReadTo reader self.new came (done ++ command ∷ []) }
+        ensures reads { (reader : Reader) (came : List ℕ) (done : List Command) (command : Command)
+            → IsReadTo reader self.old came done
+            → IsNext reader self.old.due self.old.script.source command
+            → IsReadTo reader self.new came (done ++ command ∷ []) }
         ensures fewer { is_met self.new.due ≡ true → length self.new.waiting < length self.old.waiting }
     {
         self.due = Met::Nothing;
         self.read_on();
     }
 
-    /// Reads until a command is due, or no byte waits.
+    /// Reads until a command is pending, or no byte waits.
     fn read_on(&mut self)
-        ensures reads { (reader : Reader) (came : List ℕ) (done : List Command) → IsFollowed reader self.old came done → IsReadTo reader self.new came done }
-        ensures fewer { is_met self.old.due ≡ false → is_met self.new.due ≡ true → length self.new.waiting < length self.old.waiting }
+        ensures reads { (reader : Reader) (came : List ℕ) (done : List Command) → IsFollowed reader self.old came done
+            → IsReadTo reader self.new came done }
+        ensures fewer { is_met self.old.due ≡ false → is_met self.new.due ≡ true
+            → length self.new.waiting < length self.old.waiting }
         ensures due { is_met self.old.due ≡ true → self.new.due ≡ self.old.due }
         ensures source { is_met self.old.due ≡ true → self.new.script.source ≡ self.old.script.source }
     {

@@ -1,4 +1,5 @@
-//! The store that judges submissions, and the submission to it that is under way. It is fought in steps, between which others are served.
+//! The store that judges submissions, and the submission to it that is in progress. It is fought in steps, between
+//! which others are served.
 
 ghost use Rattle.std.specs.Prelude.{◌≡◌, true, ℕ, Option, None, Some, is_some, IfErr, IfOk};
 ghost use Rattle.{hill_store.specs.Submission.IsSubmitting, koth_protocol.specs.Commands.kept_source};
@@ -11,7 +12,8 @@ use sector_disk::Device;
 use std::alloc::Allocator;
 use std::marker::Model;
 
-/// A store, and at most one submission to it that is under way, of the peer of this number. Until it is finished, the store stays as it is.
+/// A store, and at most one submission to it that is in progress, of the peer of this number. Until it is finished, the
+/// store stays as it is.
 #[derive(Drop)]
 pub struct Judge<D: Device, A: Allocator> {
     store: Store<D, A>,
@@ -29,7 +31,7 @@ impl<D: Device, A: Allocator> Model for Judge<D, A> {
 }
 
 impl<D: Device, A: Allocator> Judge<D, A> {
-    /// A store to which no submission is under way.
+    /// A store to which no submission is in progress.
     pub fn new(store: Store<D, A>) -> Judge<D, A>
         ensures { result ≡ judged store None }
     {
@@ -39,28 +41,28 @@ impl<D: Device, A: Allocator> Judge<D, A> {
         }
     }
 
-    /// The store, which is as it was before the submission that is under way.
+    /// The store, which is as it was before the current submission.
     pub fn store(&self) -> &Store<D, A>
         ensures { result.now ≡ self.now.store }
     {
         &self.store
     }
 
-    /// The device, as it stands: a submission that is under way leaves nothing there.
+    /// The device, as it is: a submission in progress leaves nothing there.
     pub fn close(self) -> D
         ensures { result ≡ self.store.device }
     {
         self.store.close()
     }
 
-    /// The number of the peer whose submission is under way.
+    /// The number of the peer whose submission is in progress.
     pub(crate) fn busy(&self) -> Option<usize>
         ensures { result ≡ fighting self.now.under_way }
     {
         number_of(&self.under_way)
     }
 
-    /// The submission of this peer is given up, if it is under way: it leaves no trace.
+    /// The submission of this peer is given up, if it is in progress: it leaves no trace.
     pub(crate) fn give_up(&mut self, number: usize)
         ensures store { self.new.store ≡ self.old.store }
         ensures under_way { self.new.under_way ≡ without number self.old.under_way }
@@ -70,9 +72,9 @@ impl<D: Device, A: Allocator> Judge<D, A> {
 }
 
 impl<D: Device, A: Allocator + Copy> Judge<D, A> {
-    /// Carries out the command that is due of a peer, or a part of its submission: its source is assembled, or as many
+    /// Carries out the pending command of a peer, or a part of its submission: its source is assembled, or as many
     /// rounds are played as a step of the store with `turns` turns has. The last step stores it. While the submission
-    /// of another is under way, a source is assembled, and waits unless it is refused.
+    /// of another is in progress, a source is assembled, and waits unless it is refused.
     pub(crate) fn serve(
         &mut self,
         alloc: A,
@@ -82,7 +84,9 @@ impl<D: Device, A: Allocator + Copy> Judge<D, A> {
         peer: &mut Peer<A>,
     ) -> Result<Option<PeerEnd>, Unanswered>
         requires due { is_due_now peer.old ≡ true }
-        ensures served { IsOfIts number peer.old self.old → IfOk result (λ outcome. IsServed D.facts (Some steps) outcome number peer.old self.old peer.new self.new) }
+        ensures served { IsOfIts number peer.old self.old
+            → IfOk result (λ outcome. IsServed D.facts
+            (Some steps) outcome number peer.old self.old peer.new self.new) }
         ensures unanswered { IsOfIts number peer.old self.old
             → IfErr result (λ why. IsUnanswered turns why number peer.old self.old peer.new self.new) }
     {
@@ -98,7 +102,7 @@ impl<D: Device, A: Allocator + Copy> Judge<D, A> {
     }
 }
 
-/// The number of the peer whose submission is under way.
+/// The number of the peer whose submission is in progress.
 fn number_of<A: Allocator>(under_way: &Option<(usize, Submission<A>)>) -> Option<usize>
     ensures { result ≡ fighting under_way.now }
 {
@@ -108,7 +112,7 @@ fn number_of<A: Allocator>(under_way: &Option<(usize, Submission<A>)>) -> Option
     }
 }
 
-/// Whether the submission of another peer than this is under way.
+/// Whether the submission of another peer than this is in progress.
 fn is_anothers<A: Allocator>(number: usize, under_way: &Option<(usize, Submission<A>)>) -> bool
     ensures { result ≡ is_some (without number under_way.now) }
 {
@@ -118,7 +122,7 @@ fn is_anothers<A: Allocator>(number: usize, under_way: &Option<(usize, Submissio
     }
 }
 
-/// Drops the submission that is under way, if it is that of this peer.
+/// Drops the current submission, if it is that of this peer.
 fn drop_of<A: Allocator>(number: usize, under_way: &mut Option<(usize, Submission<A>)>)
     ensures { under_way.new ≡ without number under_way.old }
 {
@@ -131,7 +135,7 @@ fn drop_of<A: Allocator>(number: usize, under_way: &mut Option<(usize, Submissio
     }
 }
 
-/// Carries out the command that is due of a peer, or a part of its submission.
+/// Carries out the pending command of a peer, or a part of its submission.
 fn serve_at<D: Device, A: Allocator + Copy>(
     alloc: A,
     steps: u64,
@@ -145,7 +149,8 @@ fn serve_at<D: Device, A: Allocator + Copy>(
     requires submitting { AreSubmitting store.old under_way.old }
     ensures submitting { AreSubmitting store.new under_way.new }
     ensures served { IsOfIts number peer.old (judged store.old under_way.old)
-        → IfOk result (λ outcome. IsServed D.facts (Some steps) outcome number peer.old (judged store.old under_way.old) peer.new (judged store.new under_way.new)) }
+        → IfOk result (λ outcome. IsServed D.facts (Some steps) outcome number peer.old
+        (judged store.old under_way.old) peer.new (judged store.new under_way.new)) }
     ensures unanswered { IsOfIts number peer.old (judged store.old under_way.old)
         → IfErr result (λ why. IsUnanswered turns why number peer.old (judged store.old under_way.old) peer.new
         (judged store.new under_way.new)) }
@@ -174,7 +179,8 @@ fn begin<D: Device, A: Allocator + Copy>(
     requires submits { submits_now peer.old ≡ true }
     requires free { under_way.old ≡ None }
     ensures submitting { AreSubmitting store.now under_way.new }
-    ensures served { IfOk result (λ outcome. IsServed D.facts (Some steps) outcome number peer.old (judged store.now None) peer.new (judged store.now under_way.new)) }
+    ensures served { IfOk result (λ outcome. IsServed D.facts (Some steps) outcome number peer.old
+        (judged store.now None) peer.new (judged store.now under_way.new)) }
     ensures unanswered { (turns : ℕ)
         → IfErr result (λ why. IsUnanswered turns why number peer.old (judged store.now None) peer.new
         (judged store.now under_way.new)) }
@@ -202,8 +208,10 @@ fn fight_on<D: Device, A: Allocator + Copy>(
     requires free { under_way.old ≡ None }
     requires submitting { IsSubmitting store.old submission }
     ensures submitting { AreSubmitting store.new under_way.new }
-    ensures served { (steps : Option ℕ) → IsOfSource store.old.hill.settings (kept_source peer.old.inbox.script.source) submission
-        → IfOk result (λ outcome. IsServed D.facts steps outcome number peer.old (judged store.old (Some (number, submission))) peer.new (judged store.new under_way.new)) }
+    ensures served { (steps : Option ℕ) → IsOfSource store.old.hill.settings
+        (kept_source peer.old.inbox.script.source) submission
+        → IfOk result (λ outcome. IsServed D.facts steps outcome number peer.old
+        (judged store.old (Some (number, submission))) peer.new (judged store.new under_way.new)) }
     ensures unanswered { IsOfSource store.old.hill.settings (kept_source peer.old.inbox.script.source) submission
         → IfErr result (λ why. IsUnanswered turns why number peer.old (judged store.old (Some (number, submission)))
         peer.new (judged store.new under_way.new)) }

@@ -25,9 +25,14 @@ impl<A: Allocator> Model for Outbox<A> {
 
     ghost Value = { Outgoing };
 
-    ghost view = { λ o. record { unsent = drop o.sent o.bytes.items; spare = vec_capacity o.bytes - length o.bytes.items } };
+    ghost view = { λ o. record {
+      unsent = drop o.sent o.bytes.items;
+      spare = vec_capacity o.bytes - length
+          o.bytes.items;
+    } };
 
-    ghost invariant = { λ o. (o.sent + o.sent ≤ length o.bytes.items) × (length o.bytes.items - o.sent ≤ 1048576) × (96 ≤ vec_capacity o.bytes) };
+    ghost invariant = { λ o. (o.sent + o.sent ≤ length o.bytes.items) × (length o.bytes.items - o.sent ≤ 1048576)
+        × (96 ≤ vec_capacity o.bytes) };
 }
 
 impl<A: Allocator> Outbox<A> {
@@ -48,8 +53,8 @@ impl<A: Allocator> Outbox<A> {
         UNSENT_MOST - (self.bytes.len() - self.sent)
     }
 
-    /// Takes memory for an answer of `count` bytes. `AllocError` comes if a growth of memory is refused; none is needed for the line of a
-    /// reply while nothing is unsent.
+    /// Takes memory for an answer of `count` bytes. `AllocError` comes if a growth of memory is refused; none is needed
+    /// for the line of a reply while nothing is unsent.
     pub(crate) fn reserve(&mut self, count: usize) -> Result<(), AllocError>
         ensures same { self.new.unsent ≡ self.old.unsent }
         ensures spare { OnOk result (count ≤ self.new.spare) }
@@ -75,8 +80,8 @@ impl<A: Allocator> Outbox<A> {
         &self.bytes.as_slice()[self.sent..]
     }
 
-    /// `count` bytes were sent. What was sent is dropped once it is as much as what is unsent, so at most one byte is moved for each
-    /// byte sent.
+    /// `count` bytes were sent. What was sent is dropped once it is as much as what is unsent, so at most one byte is
+    /// moved for each byte sent.
     pub(crate) fn pass(&mut self, count: usize)
         requires { count ≤ length self.old.unsent }
         ensures { self.new.unsent ≡ drop count self.old.unsent }

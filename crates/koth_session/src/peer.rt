@@ -22,7 +22,8 @@ pub struct Peer<A: Allocator> {
     outbox: Outbox<A>,
     closed: bool,
     end: Option<PeerEnd>,
-    /// Whether the command that is due is a source that gives a warrior, and was put off for the submission of another peer.
+    /// Whether the pending command is a source that gives a warrior, and was put off for the submission of another
+    /// peer.
     pub(crate) waits: bool,
     /// The reply to the command that was carried out last, if that was a submission.
     reply: Option<Reply>,
@@ -31,14 +32,15 @@ pub struct Peer<A: Allocator> {
 /// Why the command of a peer is still due after its turn.
 #[derive(Clone, Copy)]
 pub(crate) enum Unanswered {
-    /// Its submission is under way.
+    /// Its submission is in progress.
     UnderWay,
     /// Its source gives a warrior, and waits until the submission of another peer is over.
     PutOff,
 }
 
 impl<A: Allocator + Copy> Peer<A> {
-    /// A session in which nothing came yet. All its memory is taken here, except for answers that don't fit into 96 bytes.
+    /// A session in which nothing came yet. All its memory is taken here, except for answers that don't fit into 96
+    /// bytes.
     pub fn new(alloc: A) -> Result<Peer<A>, AllocError>
         ensures { IfOk result IsNew }
     {
@@ -52,10 +54,10 @@ impl<A: Allocator + Copy> Peer<A> {
         })
     }
 
-    /// Carries out the command that is due, on the store, and puts its answer after those that are unsent. It returns how the
-    /// command ended the session, if it did: with `Quit`, or with `StoreFailed` if the device failed in it. With `Unread`, if its
-    /// answer may have no room, with `Memory`, if a growth was refused, and with `StepsSpent`, if it is a source whose assembly spends these
-    /// steps, the command was not carried out.
+    /// Carries out the pending command, on the store, and puts its answer after those that are unsent. It returns how
+    /// the command ended the session, if it did: with `Quit`, or with `StoreFailed` if the device failed in it. With
+    /// `Unread`, if its answer may have no room, with `Memory`, if a growth was refused, and with `StepsSpent`, if it
+    /// is a source whose assembly spends these steps, the command was not carried out.
     pub fn serve<D: Device>(
         &mut self,
         alloc: A,
@@ -80,7 +82,7 @@ impl<A: Allocator + Copy> Peer<A> {
         outcome
     }
 
-    /// Carries out the command that is due, as `serve` does. It is no submission, so the store stays as it is.
+    /// Carries out the pending command, as `serve` does. It is no submission, so the store stays as it is.
     pub(crate) fn tell<D: Device>(&mut self, alloc: A, store: &Store<D, A>) -> Option<PeerEnd>
         requires due { is_due_now self.old ≡ true }
         requires other { submits_now self.old ≡ false }
@@ -92,8 +94,8 @@ impl<A: Allocator + Copy> Peer<A> {
         outcome
     }
 
-    /// Begins the submission that is due: its source is assembled, in these steps. If nothing is begun, its command was carried out, or it
-    /// ended the session, as `serve` has it.
+    /// Begins the pending submission: its source is assembled, in these steps. If nothing is begun, its command was
+    /// carried out, or it ended the session, as `serve` has it.
     pub(crate) fn begin<D: Device>(
         &mut self,
         steps: u64,
@@ -102,9 +104,11 @@ impl<A: Allocator + Copy> Peer<A> {
         requires due { is_due_now self.old ≡ true }
         requires submits { submits_now self.old ≡ true }
         ensures begun { IfOk result (IsSubmitting store.now) }
-        ensures of_source { IfOk result (IsOfSource store.now.hill.settings (kept_source self.old.inbox.script.source)) }
+        ensures of_source { IfOk result (IsOfSource store.now.hill.settings
+            (kept_source self.old.inbox.script.source)) }
         ensures stays { IfOk result (λ submission. Stays self.old self.new) }
-        ensures serves { IfErr result (λ outcome. Serves D.facts (Some steps) outcome self.old store.now self.new store.now) }
+        ensures serves { IfErr result (λ outcome. Serves D.facts
+            (Some steps) outcome self.old store.now self.new store.now) }
     {
         self.reply = None;
         match begin(
@@ -122,8 +126,9 @@ impl<A: Allocator + Copy> Peer<A> {
         }
     }
 
-    /// Assembles the source that is due, in these steps, while the submission of another peer is under way. If it gives a warrior, it is put
-    /// off, and `Err` says so. Else its command was carried out, or it ended the session, as `serve` has it.
+    /// Assembles the pending source, in these steps, while the submission of another peer is in progress. If it gives a
+    /// warrior, it is put off, and `Err` says so. Else its command was carried out, or it ended the session, as `serve`
+    /// has it.
     pub(crate) fn put_off<D: Device>(
         &mut self,
         steps: u64,
@@ -131,7 +136,8 @@ impl<A: Allocator + Copy> Peer<A> {
     ) -> Result<Option<PeerEnd>, Unanswered>
         requires due { is_due_now self.old ≡ true }
         requires submits { submits_now self.old ≡ true }
-        ensures serves { IfOk result (λ outcome. Serves D.facts (Some steps) outcome self.old store.now self.new store.now) }
+        ensures serves { IfOk result (λ outcome. Serves D.facts
+            (Some steps) outcome self.old store.now self.new store.now) }
         ensures put_off { IfErr result (λ why. why ≡ unanswered.PutOff) }
         ensures assembled { IfErr result (λ why. Assembled store.now (kept_source self.old.inbox.script.source)) }
         ensures puts_off { IfErr result (λ why. PutsOff self.old self.new) }
@@ -145,7 +151,7 @@ impl<A: Allocator + Copy> Peer<A> {
         }
     }
 
-    /// Finishes the submission of the source that is due, which was judged so, as `serve` does.
+    /// Finishes the submission of the pending source, which was judged so, as `serve` does.
     pub(crate) fn finish<D: Device>(
         &mut self,
         store: &mut Store<D, A>,
@@ -156,7 +162,8 @@ impl<A: Allocator + Copy> Peer<A> {
         requires submits { submits_now self.old ≡ true }
         requires may { MayChallenge store.old submission.warrior }
         requires verdict { judged.now ≡ verdict_kept store.old.hill submission.warrior }
-        ensures { (steps : Option ℕ) → IsOfSource store.old.hill.settings (kept_source self.old.inbox.script.source) submission
+        ensures { (steps : Option ℕ) → IsOfSource store.old.hill.settings
+            (kept_source self.old.inbox.script.source) submission
             → Serves D.facts steps result self.old store.old self.new store.new }
     {
         self.reply = None;
@@ -167,7 +174,7 @@ impl<A: Allocator + Copy> Peer<A> {
 }
 
 impl<A: Allocator> Peer<A> {
-    /// How many bytes may come now: at most 4096 wait after a command that is due, and 16,777,216 come in all. None
+    /// How many bytes may come now: at most 4096 wait after a pending command, and 16,777,216 come in all. None
     /// may come once the session has ended, or its bytes are at their end.
     pub fn room(&self) -> usize
         ensures room { result ≡ may_come_now self.now }
@@ -180,7 +187,8 @@ impl<A: Allocator> Peer<A> {
         room
     }
 
-    /// Bytes came. They are read up to the next command, which is due then, and nothing is carried out. It needs no memory.
+    /// Bytes came. They are read up to the next command, which is pending then, and nothing is carried out. It needs no
+    /// memory.
     pub fn take(&mut self, bytes: &[u8])
         requires { length bytes.now ≤ may_come_now self.old }
         ensures { Takes self.old bytes.now self.new }
@@ -210,14 +218,14 @@ impl<A: Allocator> Peer<A> {
         self.end.is_none() && is_met(self.inbox.due())
     }
 
-    /// Whether the command that is due is a line that a browser sends: a request of HTTP.
+    /// Whether the pending command is a line that a browser sends: a request of HTTP.
     pub fn asks(&self) -> bool
         ensures { result ≡ asks_now self.now }
     {
         matches!(self.inbox.due(), Met::Request)
     }
 
-    /// Whether the command that is due is a submission.
+    /// Whether the pending command is a submission.
     pub(crate) fn submits(&self) -> bool
         ensures { result ≡ submits_now self.now }
     {
@@ -270,7 +278,7 @@ impl<A: Allocator> Peer<A> {
         }
     }
 
-    /// How the session stands after what came.
+    /// How the session is after what came.
     fn settled(&self) -> Option<PeerEnd>
         ensures { result ≡ settled_now None self.now }
     {

@@ -25,14 +25,15 @@ pub enum NotConnected {
 /// What a step served.
 #[derive(Clone, Copy, Debug, PartialEq, Eq)]
 pub enum Step {
-    /// No peer has a command that is due.
+    /// No peer has a pending command.
     Nobody,
     /// A command of this peer was carried out, or ended its session.
     Served(usize),
-    /// A submission of this peer was begun, or some rounds of it were played: it is under way, and its command is still due.
+    /// A submission of this peer was begun, or some rounds of it were played: it is in progress, and its command is
+    /// still pending.
     Stepped(usize),
-    /// A source of this peer was assembled while the submission of another is under way. It gives a warrior, so it waits until that is over: its
-    /// command is still due.
+    /// A source of this peer was assembled while the submission of another is in progress. It gives a warrior, so it
+    /// waits until that is over: its command is still pending.
     PutOff(usize),
     /// The turn is this peer's, and a browser's request is due of it, which was not carried out: have it leave.
     Asked(usize),
@@ -69,8 +70,8 @@ impl<A: Allocator + Copy> Peers<A> {
         })
     }
 
-    /// Begins a session, and returns its number, which is the least that is free. `Full` comes if none is, and `Memory` if a
-    /// growth of memory is refused.
+    /// Begins a session, and returns its number, which is the least that is free. `Full` comes if none is, and `Memory`
+    /// if a growth of memory is refused.
     pub fn connect(&mut self) -> Result<usize, NotConnected>
         ensures connects { Connects result self.old.slots.items self.new.slots.items }
         ensures next { self.new.next ≡ self.old.next }
@@ -89,10 +90,10 @@ impl<A: Allocator + Copy> Peers<A> {
 
     /// Carries out one command at most: that of the first peer to which the turn may come, beginning after the peer
     /// served last and going round. Of a submission that is to be fought one step is made: it has as many rounds as
-    /// have `turns` turns at most, or one. While it is under way the turn comes to the others too: a source of theirs
-    /// is refused, or put off. Once it has its share, the step is its own, whoever has the turn. If no submission is
-    /// under way, that of the first source that was put off is begun, from the peer whose submission was the last one
-    /// and going round. Both leave the turn where it is. A browser's request is not carried out, and the turn stays
+    /// have `turns` turns at most, or one. While it is in progress the turn comes to the others too: a source of theirs
+    /// is refused, or put off. Once it has its share, the step is its own, no matter who has the turn. If no submission
+    /// is in progress, that of the first source that was put off is begun, from the peer whose submission was the last
+    /// one and going round. Both leave the turn where it is. A browser's request is not carried out, and the turn stays
     /// where it is until that peer has left. Nor is a source whose assembly spends these steps.
     pub fn serve_next<D: Device>(
         &mut self,
@@ -200,10 +201,12 @@ impl<A: Allocator> Peers<A> {
         }
     }
 
-    /// Whether no command may be carried out: none is due, and no submission is under way.
+    /// Whether no command may be carried out: none is due, and no submission is in progress.
     pub fn is_idle<D: Device>(&self, judge: &Judge<D, A>) -> bool
-        ensures idle { result ≡ true → (p : ℕ) → may_serve_at (fighting judge.now.under_way) self.now.slots.items p ≡ false }
-        ensures busy { result ≡ false → (p : ℕ) × (may_serve_at (fighting judge.now.under_way) self.now.slots.items p ≡ true) }
+        ensures idle { result ≡ true → (p : ℕ)
+            → may_serve_at (fighting judge.now.under_way) self.now.slots.items p ≡ false }
+        ensures busy { result ≡ false → (p : ℕ)
+            × (may_serve_at (fighting judge.now.under_way) self.now.slots.items p ≡ true) }
     {
         match next_due(self.slots.as_slice(), 0, judge.busy(), None) {
             Some(_) => false,
@@ -226,8 +229,8 @@ impl<A: Allocator> Peers<A> {
         }
     }
 
-    /// Whether nothing is left to be done for this peer: its session has ended, and all answers were sent. So it is for a number
-    /// that is free.
+    /// Whether nothing is left to be done for this peer: its session has ended, and all answers were sent. So it is for
+    /// a number that is free.
     pub fn is_finished(&self, number: usize) -> bool
         ensures { result ≡ is_finished_in (peer_at self.now.slots.items number) }
     {
@@ -237,7 +240,8 @@ impl<A: Allocator> Peers<A> {
         }
     }
 
-    /// Drops a peer, however its session stands: its number is free. A submission of it that is under way is given up, and leaves no trace.
+    /// Drops a peer, however its session is: its number is free. A submission of it that is in progress is given up,
+    /// and leaves no trace.
     pub fn leave<D: Device>(&mut self, number: usize, judge: &mut Judge<D, A>)
         ensures only { OnlyAt number self.old.slots.items self.new.slots.items }
         ensures at { peer_at self.new.slots.items number ≡ None }
@@ -252,7 +256,7 @@ impl<A: Allocator> Peers<A> {
     }
 }
 
-/// Carries out the command that is due of the peer of this number, or a part of its submission.
+/// Carries out the pending command of the peer of this number, or a part of its submission.
 fn serve_at<D: Device, A: Allocator + Copy>(
     alloc: A,
     steps: u64,
@@ -262,7 +266,9 @@ fn serve_at<D: Device, A: Allocator + Copy>(
     judge: &mut Judge<D, A>,
 ) -> Result<Option<PeerEnd>, Unanswered>
     requires { may_serve_in (fighting judge.old.under_way) number slot.old ≡ true }
-    ensures served { IsOfIn number slot.old judge.old → IfOk result (λ outcome. Moves (λ p q. IsServed D.facts (Some steps) outcome number p judge.old q judge.new) slot.old slot.new) }
+    ensures served { IsOfIn number slot.old judge.old
+        → IfOk result (λ outcome. Moves (λ p q. IsServed D.facts
+        (Some steps) outcome number p judge.old q judge.new) slot.old slot.new) }
     ensures unanswered { IsOfIn number slot.old judge.old
         → IfErr result (λ why. Moves (λ p q. IsUnanswered turns why number p judge.old q judge.new) slot.old slot.new) }
 {

@@ -18,11 +18,13 @@ use std::io::Write;
 /// | `Refused` | `REFUSED line Kind` |
 /// | `Memory`, `Worn`, `Disk`, `Reopen` | `MEMORY`, `WORN`, `DISK`, `REOPEN` |
 ///
-/// One blank stands between the parts, numbers are decimal, and a line feed ends the line. `WriteFault` comes if the stream
+/// One blank is between the parts, numbers are decimal, and a line feed ends the line. `WriteFault` comes if the stream
 /// fails or takes no byte; a part of the line is written then, from its beginning on. It needs no memory.
 pub fn write_reply<W: Write>(output: &mut Counted<W>, reply: &Reply) -> Result<(), WriteFault>
-    ensures whole { OnOk result (Appends (W.contents output.old.stream) (W.contents output.new.stream) (reply_line reply.now)) }
-    ensures part { OnErr result (WritesPart (W.contents output.old.stream) (W.contents output.new.stream) (reply_line reply.now)) }
+    ensures whole { OnOk result (Appends (W.contents output.old.stream) (W.contents output.new.stream)
+        (reply_line reply.now)) }
+    ensures part { OnErr result (WritesPart (W.contents output.old.stream) (W.contents output.new.stream)
+        (reply_line reply.now)) }
     ensures ok { OnOk result (output.new.faults ≡ output.old.faults) }
     ensures rose { OnErr result (Rose output.old.faults output.new.faults) }
 {
@@ -45,7 +47,8 @@ pub fn line_of(reply: &Reply) -> Line
 }
 
 fn placed_line(entry: u64, rank: u32, score: u32) -> Line
-    ensures { result ≡ codes "PLACED " ++ decimal entry ++ codes " " ++ decimal rank ++ codes " " ++ decimal score ++ codes "\n" }
+    ensures { result ≡ codes "PLACED " ++ decimal entry ++ codes " " ++ decimal rank ++ codes " " ++ decimal score
+        ++ codes "\n" }
 {
     let mut line = Line::new();
     line.put(b"PLACED ");

@@ -35,10 +35,10 @@ pub enum SessionEnd {
 /// Serves a session: takes commands from the input, and writes each one's answer before the next one is served. A
 /// submission is answered once it is stored.
 ///
-/// It ends with `Memory` if there is no memory for its buffers, and reads nothing then. So it does if there is no memory for the answer
-/// to `SHOW`, or if that is over 1,048,576 bytes, and writes none of it then. It ends with `ReadFault` or `WriteFault` if a stream
-/// fails, and with `Limit` if it has taken 16,777,216 bytes and needs another. If the device fails in a submission, it ends with
-/// `StoreFailed`, and the submission is not answered.
+/// It ends with `Memory` if there is no memory for its buffers, and reads nothing then. So it does if there is no
+/// memory for the answer to `SHOW`, or if that is over 1,048,576 bytes, and writes none of it then. It ends with
+/// `ReadFault` or `WriteFault` if a stream fails, and with `Limit` if it has taken 16,777,216 bytes and needs another.
+/// If the device fails in a submission, it ends with `StoreFailed`, and the submission is not answered.
 pub fn session<R: Read, W: Write, D: Device, A: Allocator + Copy>(
     alloc: A,
     input: &mut Counted<R>,
@@ -117,8 +117,8 @@ fn serve<R: Read, W: Write, D: Device, A: Allocator + Copy>(
     }
 }
 
-/// Reads once, at most what may come of the peer, and returns how many bytes came; 0 means that the input is at its end. No command of the
-/// peer may be due then, and no answer unsent.
+/// Reads once, at most what may come of the peer, and returns how many bytes came; 0 means that the input is at its
+/// end. No command of the peer may be due then, and no answer unsent.
 fn read_chunk<R: Read, A: Allocator>(
     peer: &Peer<A>,
     input: &mut Counted<R>,
@@ -130,7 +130,8 @@ fn read_chunk<R: Read, A: Allocator>(
     requires none_unsent { peer.now.outbox.unsent ≡ [] }
     ensures size { length chunk.new ≡ length chunk.old }
     ensures within { IfOk result (λ count. (count ≤ may_come_now peer.now) × (count ≤ 4096)) }
-    ensures taken { IfOk result (λ count. Consumes (R.remaining input.old.stream) (R.remaining input.new.stream) (take count chunk.new)) }
+    ensures taken { IfOk result (λ count. Consumes (R.remaining input.old.stream) (R.remaining input.new.stream)
+        (take count chunk.new)) }
     ensures end { IfOk result (λ count. count ≡ 0 → IsAtEnd (R.remaining input.new.stream)) }
     ensures counted { IfOk result (λ count. input.new.taken ≤ input.old.taken + count) }
     ensures uncounted { OnErr result (input.new.taken ≡ input.old.taken) }
@@ -142,7 +143,7 @@ fn read_chunk<R: Read, A: Allocator>(
     input.read(&mut chunk[..most])
 }
 
-/// Carries out the command that is due, and sends its answer. The error is how the session ends, and `None` if a source
+/// Carries out the pending command, and sends its answer. The error is how the session ends, and `None` if a source
 /// spends its steps.
 fn answer_next<W: Write, D: Device, A: Allocator + Copy>(
     alloc: A,

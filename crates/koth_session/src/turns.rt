@@ -31,15 +31,16 @@ impl Turn {
     }
 }
 
-/// The peer that is served next. While a submission is under way, it is the peer of that if its share is due. If none is, it is the first one
-/// whose source was put off. Else it is the first one to which the turn may come.
+/// The peer that is served next. While a submission is in progress, it is the peer of that if its share is due. If none
+/// is, it is the first one whose source was put off. Else it is the first one to which the turn may come.
 pub(crate) fn next_served<A: Allocator>(
     slots: &[Option<Peer<A>>],
     turn: Turn,
     busy: Option<usize>,
     has_share: bool,
 ) -> Option<usize>
-    ensures { MatchOption result ((p : ℕ) → may_serve_at busy slots.now p ≡ false) (IsNext has_share busy slots.now turn) }
+    ensures { MatchOption result ((p : ℕ) → may_serve_at busy slots.now p ≡ false)
+        (IsNext has_share busy slots.now turn) }
 {
     match next_due(slots, turn.submission, busy, Some(has_share)) {
         Some(number) => Some(number),
@@ -47,15 +48,17 @@ pub(crate) fn next_served<A: Allocator>(
     }
 }
 
-/// The first peer that is sought, if the turn begins at this number and goes round. The submission of this peer is under way, if there is one.
-/// All to which the turn may come are sought, or of these the ones that come first, with a share that is due or without.
+/// The first peer that is sought, if the turn begins at this number and goes round. The submission of this peer is in
+/// progress, if there is one. All to which the turn may come are sought, or of these the ones that come first, with a
+/// share that is due or without.
 pub(crate) fn next_due<A: Allocator>(
     slots: &[Option<Peer<A>>],
     start: usize,
     busy: Option<usize>,
     first: Option<bool>,
 ) -> Option<usize>
-    ensures { MatchOption result ((p : ℕ) → is_sought_at first busy slots.now p ≡ false) (IsFirstDue first busy slots.now start) }
+    ensures { MatchOption result ((p : ℕ) → is_sought_at first busy slots.now p ≡ false)
+        (IsFirstDue first busy slots.now start) }
 {
     let count = slots.len();
     match first_due(slots, start, count, busy, first) {
@@ -73,7 +76,8 @@ fn first_due<A: Allocator>(
     first: Option<bool>,
 ) -> Option<usize>
     requires { to ≤ length slots.now }
-    ensures { MatchOption result (NoneIsDueWithin first busy slots.now from to) (IsFirstDueWithin first busy slots.now from to) }
+    ensures { MatchOption result (NoneIsDueWithin first busy slots.now from to)
+        (IsFirstDueWithin first busy slots.now from to) }
 {
     for number in from..to {
         if may_serve(busy, first, number, &slots[number]) {
@@ -111,7 +115,7 @@ fn is_sought(first: Option<bool>, busy: Option<usize>, number: usize, waits: boo
     }
 }
 
-/// Whether the turn may come to a peer with this number beside the submission that is under way, by whether its source waits.
+/// Whether the turn may come to a peer with this number next to the current submission, by whether its source waits.
 fn is_beside(busy: Option<usize>, number: usize, waits: bool) -> bool
     ensures { result ≡ is_beside busy number waits }
 {
@@ -121,7 +125,7 @@ fn is_beside(busy: Option<usize>, number: usize, waits: bool) -> bool
     }
 }
 
-/// Whether the command that is due of a peer is a browser's request.
+/// Whether the pending command of a peer is a browser's request.
 pub(crate) fn asks<A: Allocator>(slot: &Option<Peer<A>>) -> bool
     ensures { result ≡ asks_in slot.now }
 {
@@ -133,7 +137,8 @@ pub(crate) fn asks<A: Allocator>(slot: &Option<Peer<A>>) -> bool
 
 /// The least number that is free.
 pub(crate) fn first_free<A: Allocator>(slots: &[Option<Peer<A>>]) -> Option<usize>
-    ensures { MatchOption result ((p : ℕ) → p < length slots.now → IsSome (peer_at slots.now p)) (IsFirstFree slots.now) }
+    ensures { MatchOption result ((p : ℕ) → p < length slots.now → IsSome (peer_at slots.now p))
+        (IsFirstFree slots.now) }
 {
     for number in 0..slots.len() {
         if slots[number].is_none() {

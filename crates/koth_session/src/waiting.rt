@@ -22,7 +22,8 @@ impl<A: Allocator> Model for Waiting<A> {
 
     ghost view = { λ w. drop w.read w.bytes.items };
 
-    ghost invariant = { λ w. (w.read ≤ length w.bytes.items) × (length w.bytes.items ≤ 4096) × (4096 ≤ vec_capacity w.bytes) };
+    ghost invariant = { λ w. (w.read ≤ length w.bytes.items) × (length w.bytes.items ≤ 4096)
+        × (4096 ≤ vec_capacity w.bytes) };
 }
 
 impl<A: Allocator> Waiting<A> {

@@ -18,8 +18,8 @@ const PIECE: usize = 4096;
 /// The same of a terminal.
 const TYPED: usize = 128;
 
-/// An output of the system, such as standard error, and a poll of it once a line of a log was begun: then it is written to only if it takes bytes
-/// at once. No flag of the descriptor is changed, since other programs may have it too.
+/// An output of the system, such as standard error, and a poll of it once a line of a log was begun: then it is written
+/// to only if it takes bytes at once. No flag of the descriptor is changed, since other programs may have it too.
 #[derive(Drop)]
 pub struct PolledLog<'r, R, A: Allocator, W> {
     rt: &'r R,
@@ -60,8 +60,8 @@ impl<'r, R: Net, A: Allocator + Copy, W: Write + AsRawFd> PolledLog<'r, R, A, W>
         }
     }
 
-    /// How many of `left` bytes are written at once. The last one that goes to a terminal, a line feed, goes alone: a terminal that takes any bytes
-    /// takes a piece without a line feed.
+    /// How many of `left` bytes are written at once. The last one that goes to a terminal, a line feed, goes alone: a
+    /// terminal that takes any bytes takes a piece without a line feed.
     fn piece(&self, left: usize) -> usize
         ensures { result ≤ left }
     {

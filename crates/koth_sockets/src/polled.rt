@@ -13,8 +13,8 @@ use std::net::{Net, SocketAddr};
 use std::rt::Clock;
 use std::time::{Duration, Instant};
 
-/// Most events that one wait gives, one a socket at most. They are more than the program's sockets: 1,024 peers, 16 browsers and two listeners.
-/// A peer of which a wait didn't tell would count as silent.
+/// Most events that one wait gives, one a socket at most. They are more than the program's sockets: 1,024 peers, 16
+/// browsers and two listeners. A peer of which a wait didn't tell would count as silent.
 const EVENTS: usize = 2_048;
 
 /// The token of the listener. The tokens of peers are their numbers, and the tokens of browsers follow them.
@@ -38,8 +38,9 @@ pub struct PolledSockets<'r, R, A: Allocator> {
 }
 
 impl<'r, R: Net + Clock, A: Allocator + Copy> PolledSockets<'r, R, A> {
-    /// A listener at this address, or at a port that the system chooses if its port is 0, with room for `most` peers at once. It fails as the
-    /// system's calls do, with `AddrInUse` and `PermissionDenied` among others, and with `OutOfMemory` if memory runs out.
+    /// A listener at this address, or at a port that the system chooses if its port is 0, with room for `most` peers at
+    /// once. It fails as the system's calls do, with `AddrInUse` and `PermissionDenied` among others, and with
+    /// `OutOfMemory` if memory runs out.
     pub fn bind(
         rt: &'r R,
         alloc: A,
@@ -168,7 +169,8 @@ impl<'r, R: Clock, A: Allocator> Sockets for PolledSockets<'r, R, A> {
         self.latest
     }
 
-    /// A signal ends a poll without events, though bytes may have come while it stopped the program. So they are looked for once more.
+    /// A signal ends a poll without events, though bytes may have come while it stopped the program. So they are looked
+    /// for once more.
     fn wait(&mut self, most: u64) -> u64 {
         self.poll_for(most);
         if self.events.is_empty() {

@@ -14,8 +14,8 @@ use std::alloc::Allocator;
 use war_types::Warrior;
 
 impl<D: Device, A: Allocator + Copy> Store<D, A> {
-    /// What a submission of this source would be answered, in this number of steps if there is one: its verdict if it would be placed or
-    /// fall, and else the reply. Nothing is submitted. `None` if the assembly spends the steps.
+    /// What a submission of this source would be answered, in this number of steps if there is one: its verdict if it
+    /// would be placed or fall, and else the reply. Nothing is submitted. `None` if the assembly spends the steps.
     pub fn try_source(
         &mut self,
         source: &[u8],
@@ -51,11 +51,12 @@ impl<D: Device, A: Allocator + Copy> Store<D, A> {
 }
 
 impl<D: Device, A: Allocator> Store<D, A> {
-    /// Writes the hill to another device that holds none: the slots of its warriors, with the results of their matches, and only when
-    /// these have reached the disk the header, with the same generation.
+    /// Writes the hill to another device that holds none: the slots of its warriors, with the results of their matches,
+    /// and only when these have reached the disk the header, with the same generation.
     ///
-    /// The refusals, in their order: `TooSmall` if that device has fewer sectors than the hill needs, `Disk`, `Occupied` if a sector holds a
-    /// valid header of either format, and `Disk` while the slots and then the header are written. It needs no memory.
+    /// The refusals, in their order: `TooSmall` if that device has fewer sectors than the hill needs, `Disk`,
+    /// `Occupied` if a sector holds a valid header of either format, and `Disk` while the slots and then the header are
+    /// written. It needs no memory.
     pub fn copy_to<N: Device>(&self, new: &mut N) -> Result<(), Refusal>
         ensures kept { IsKept N.facts new.old new.new }
         ensures faultless { OnOk result (N.facts.faults new.new ≡ N.facts.faults new.old) }
@@ -63,7 +64,8 @@ impl<D: Device, A: Allocator> Store<D, A> {
         ensures refused { IfErr result (IsNotTaken N.facts new.old self.now.hill new.new) }
         ensures unfaulted { IfErr result (IsUnfaulted N.facts new.old new.new) }
         ensures fresh { N.facts.lawful new.old → Images (N.facts.disk new.old) HoldsNone
-            → Images (N.facts.disk new.new) (λ image. HoldsNone image ⊎ Reads (N.facts.size new.new) image self.now.hill) }
+            → Images (N.facts.disk new.new)
+            (λ image. HoldsNone image ⊎ Reads (N.facts.size new.new) image self.now.hill) }
     {
         if new.sectors() < sectors_for(self.header.settings().capacity()) {
             return Err(Refusal::TooSmall);

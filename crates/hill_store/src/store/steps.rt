@@ -1,4 +1,5 @@
-//! A submission in parts: it is begun, fought step by step, and finished. Until it is finished, device and hill stay as they are.
+//! A submission in parts: it is begun, fought step by step, and finished. Until it is finished, device and hill stay as
+//! they are.
 
 ghost use Rattle.std.specs.Prelude.{◌≡◌, ◌-◌, ◌^◌, ◌<◌, ℕ, List, None, Ok, IfSome};
 ghost use Rattle.{redcode_asm.specs.Assembly.assembly, sector_disk.specs.Served.IsKept};
@@ -14,8 +15,8 @@ use sector_disk::Device;
 use std::alloc::Allocator;
 
 impl<D: Device, A: Allocator + Copy> Store<D, A> {
-    /// Assembles a source, in this number of steps if there is one, and begins its submission. `None` if the assembly spends
-    /// the steps, and a reply if it ends without a warrior that may be judged: then nothing is submitted.
+    /// Assembles a source, in this number of steps if there is one, and begins its submission. `None` if the assembly
+    /// spends the steps, and a reply if it ends without a warrior that may be judged: then nothing is submitted.
     pub fn begin(&self, source: &[u8], steps: Option<u64>) -> Option<Result<Submission<A>, Reply>>
         ensures begun { IsBegun D.facts steps self.now source.now result }
         ensures hill { IsKeptHill self.now.hill }
@@ -35,13 +36,14 @@ impl<D: Device, A: Allocator + Copy> Store<D, A> {
         Some(Ok(Submission { warrior, challenge }))
     }
 
-    /// Plays on in a submission that this hill has under way, as a step of its challenge with `turns` turns does. The verdict comes once all
-    /// its matches are fought. It doesn't depend on `turns`.
+    /// Plays on in a submission that this hill has in progress, as a step of its challenge with `turns` turns does. The
+    /// verdict comes once all its matches are fought. It doesn't depend on `turns`.
     pub fn step(&mut self, submission: &mut Submission<A>, turns: u32) -> Option<Verdict>
         requires { IsSubmitting self.old submission.old }
         ensures submitting { IsSubmitting self.old submission.new }
         ensures warrior { submission.new.warrior ≡ submission.old.warrior }
-        ensures rounds { result ≡ None → IsStep turns self.old.hill.settings submission.old.challenge submission.new.challenge }
+        ensures rounds { result ≡ None → IsStep turns self.old.hill.settings submission.old.challenge
+            submission.new.challenge }
         ensures last { IfSome result (λ judged. judged ≡ verdict_kept self.old.hill submission.old.warrior) }
         ensures unchanged { self.new ≡ self.old }
     {
@@ -54,7 +56,8 @@ impl<D: Device, A: Allocator + Copy> Store<D, A> {
     pub fn finish(&mut self, submission: Submission<A>, judged: &Verdict) -> Reply
         requires may { MayChallenge self.old submission.warrior }
         requires verdict { judged.now ≡ verdict_kept self.old.hill submission.warrior }
-        ensures submits { (source : List ℕ) → assembly self.old.hill.settings source ≡ Ok submission.warrior → Submits D.facts self.old source result self.new }
+        ensures submits { (source : List ℕ) → assembly self.old.hill.settings source ≡ Ok submission.warrior
+            → Submits D.facts self.old source result self.new }
         ensures challenges { Challenges D.facts self.old submission.warrior result self.new }
         ensures kept { IsKept D.facts self.old.device self.new.device }
     {
@@ -68,7 +71,8 @@ impl<D: Device, A: Allocator + Copy> Store<D, A> {
     /// Makes all steps of a submission, and finishes it.
     pub(super) fn settle(&mut self, mut submission: Submission<A>) -> Reply
         requires { IsSubmitting self.old submission }
-        ensures submits { (source : List ℕ) → assembly self.old.hill.settings source ≡ Ok submission.warrior → Submits D.facts self.old source result self.new }
+        ensures submits { (source : List ℕ) → assembly self.old.hill.settings source ≡ Ok submission.warrior
+            → Submits D.facts self.old source result self.new }
         ensures kept { IsKept D.facts self.old.device self.new.device }
     {
         let verdict = self.fight_out(&mut submission);
