@@ -96,7 +96,8 @@ pub(crate) fn with_arguments<'a>(
     command: Result<Command<'a>, AllocError>,
     arguments: &[Argument],
 ) -> Result<Command<'a>, AllocError>
-    ensures { (app : App) → IfOk command.entry (IsReadAs app) → IfOk result (IsReadAs (fold with_argument app arguments.now)) }
+    ensures { (app : App) → IfOk command.entry (IsReadAs app)
+        → IfOk result (IsReadAs (fold with_argument app arguments.now)) }
 {
     let mut command = command;
     for argument in arguments {
@@ -111,7 +112,8 @@ fn with_argument<'a>(
     command: Result<Command<'a>, AllocError>,
     argument: &Argument,
 ) -> Result<Command<'a>, AllocError>
-    ensures { (app : App) → IfOk command.entry (IsReadAs app) → IfOk result (IsReadAs (with_argument app argument.now)) }
+    ensures { (app : App) → IfOk command.entry (IsReadAs app)
+        → IfOk result (IsReadAs (with_argument app argument.now)) }
 {
     match command {
         Ok(command) => command.arg(argument.arg(heap)),

@@ -259,7 +259,8 @@ pub fn koth_command<'a>(heap: Global) -> Result<Command<'a>, AllocError>
 
 /// The program with its commands up to `serve`.
 fn commands_to_serve<'a>(heap: Global) -> Result<Command<'a>, AllocError>
-    ensures { IfOk result (IsReadAs (with_commands commands_to_fight (create_app ∷ submit_app ∷ show_app ∷ serve_app ∷ []))) }
+    ensures { IfOk result (IsReadAs (with_commands commands_to_fight
+        (create_app ∷ submit_app ∷ show_app ∷ serve_app ∷ []))) }
 {
     with_rows(heap, commands_to_fight(heap), &TO_SERVE)
 }

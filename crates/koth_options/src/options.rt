@@ -10,8 +10,8 @@ use clap::Command;
 use std::alloc::{AllocError, Global};
 use war_types::range_of;
 
-/// Gives a macro the steps that the assembly of a source may take in a service, unless `--steps` is given. The help of that option, the service and
-/// the note of `check` all take them from here.
+/// Gives a macro the steps that the assembly of a source may take in a service, unless `--steps` is given. The help of
+/// that option, the service and the note of `check` all take them from here.
 #[macro_export]
 macro_rules! default_steps {
     ($user:ident $($more:tt)*) => { $user!(25000 $($more)*) };
@@ -154,7 +154,8 @@ pub(crate) fn with_like<'a>(
     with_settings(heap, command)
 }
 
-/// The command with an option for a preset, and one for each of the ten settings, which takes a whole number of 32 bits.
+/// The command with an option for a preset, and one for each of the ten settings, which takes a whole number of 32
+/// bits.
 pub(crate) fn with_settings<'a>(
     heap: Global,
     command: Result<Command<'a>, AllocError>,

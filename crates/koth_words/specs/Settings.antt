@@ -1,9 +1,11 @@
--- The settings that a command's words give: those of a hill that they name, or of a preset, or the default ones, and what options give in place of them.
+-- The settings that a command's words give: those of a hill that they name, or of a preset, or the default ones, and
+-- what options give in place of them.
 use Rattle.std.specs.{Prelude.{◌≡◌, ℕ, ◌==◌, if◌then◌else◌, List, codes, option_map, unwrap_or}, Option.option_map_or, Str.bytes_eq}
 use Rattle.{clap.specs.Words.{Row, Text, first_of, one_of}, war_types.specs.declared.settings.RawSettings.RawSettings}
 use Rattle.koth_words.specs.{Options.{default_settings, number_given}, declared.settings.Chosen.Chosen, declared.settings.Given.Given}
 
--- the settings of the preset of this name: of the tiny hill, or of the nano hill, and else, as of the hill '94nop, the default ones
+-- the settings of the preset of this name: of the tiny hill, or of the nano hill, and else, as of the hill '94nop, the
+-- default ones
 abbrev pub preset_settings : Text → RawSettings
 preset_settings name =
     if bytes_eq name (codes "tiny") then record default_settings { core = 800; cycles = 8000; processes = 800; length = 20; distance = 20 } else (

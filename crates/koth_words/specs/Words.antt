@@ -137,7 +137,8 @@ has_setting given = has_option (codes "core") given || has_option (codes "cycles
 abbrev pub at_most_one : List Bool → Bool
 at_most_one given = nat_le (count_by (λ is_given. is_given) given) 1
 
--- of layouts, of a seed that is drawn and one that is given, of a hill and a preset, of settings and matches to be shown, and of rounds
+-- of layouts, of a seed that is drawn and one that is given, of a hill and a preset, of settings and matches to be
+-- shown, and of rounds
 abbrev pub has_one_choice : List Row → Bool
 has_one_choice given = at_most_one (has_flag (codes "plain") given ∷ has_flag (codes "table") given ∷ asks_json given ∷ [])
     && at_most_one (has_flag (codes "draw-seed") given ∷ has_option (codes "seed") given ∷ [])
@@ -155,7 +156,8 @@ has_known_texts given = is_left_out_or (codes "text" ∷ codes "json" ∷ []) (f
     && is_left_out_or (codes "94nop" ∷ codes "tiny" ∷ codes "nano" ∷ []) (first_of (codes "preset") given)
     && is_left_out_or (codes "warnings" ∷ []) (first_of (codes "deny") given)
 
--- at most one source is the input, and messages have a name for it only if there is one; each round is told of one match alone
+-- at most one source is the input, and messages have a name for it only if there is one; each round is told of one
+-- match alone
 abbrev pub has_clear_sources : List Row → Bool
 has_clear_sources given = nat_le (inputs_in given) 1
     && not (has_option (codes "name") given && inputs_in given == 0)
@@ -165,7 +167,8 @@ has_clear_sources given = nat_le (inputs_in given) 1
 abbrev pub uses_settings : List Row → Bool
 uses_settings given = not (has_option (codes "port") given && has_setting given && not (has_flag (codes "create") given))
 
--- a page goes into a file or past the terminal: `replay`, which alone has `--lost`, has `--output` if tables are for people
+-- a page goes into a file or past the terminal: `replay`, which alone has `--lost`, has `--output` if tables are for
+-- people
 abbrev pub has_place : View → List Row → Bool
 has_place view given = not (has_option (codes "lost") given && is_table view && not (has_option (codes "output") given))
 

@@ -35,7 +35,8 @@ pub(crate) fn texts_given<'w>(
     matches: &ArgMatches<'w>,
     name: &str,
 ) -> Result<Vec<&'w str>, AllocError>
-    ensures { IfOk result (λ texts. map (λ text. text.now) texts.items ≡ words_in name.now (rows_of (found_of matches.now))) }
+    ensures { IfOk result (λ texts. map (λ text. text.now) texts.items
+        ≡ words_in name.now (rows_of (found_of matches.now))) }
 {
     let mut texts = Vec::new(heap);
     texts.extend_from_slice(words_given(matches, name).unwrap_or(&[]))?;
@@ -44,7 +45,8 @@ pub(crate) fn texts_given<'w>(
 
 /// The words that are given under this name, in their order, if there are any.
 pub(crate) fn words_given<'m, 'w>(matches: &'m ArgMatches<'w>, name: &str) -> Option<&'m [&'w str]>
-    ensures { option_map (λ words. map (λ word. word.now) words.now) result ≡ all_of name.now (rows_of (found_of matches.now)) }
+    ensures { option_map (λ words. map (λ word. word.now) words.now) result
+        ≡ all_of name.now (rows_of (found_of matches.now)) }
 {
     matches.get_strs(name)
 }
@@ -169,7 +171,8 @@ pub(crate) fn watched_named<'w>(matches: &ArgMatches<'w>) -> Watched<'w>
     ensures older { place result.older ≡ place_named (codes "MINE") (rows_of (found_of matches.now)) }
     ensures younger { place result.younger ≡ place_named (codes "OTHER") (rows_of (found_of matches.now)) }
     ensures round { result.round ≡ round_in (rows_of (found_of matches.now)) }
-    ensures page { option_map (λ file. file.now) result.page ≡ first_of (codes "output") (rows_of (found_of matches.now)) }
+    ensures page { option_map (λ file. file.now) result.page
+        ≡ first_of (codes "output") (rows_of (found_of matches.now)) }
 {
     Watched {
         older: source_named(matches, "MINE"),

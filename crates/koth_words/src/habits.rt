@@ -34,7 +34,7 @@ fn instead_of(word: &str) -> Option<&'static str> {
     }
 }
 
-/// Whether these words name a source where a command is due. The first of `words` is the program's name.
+/// Whether these words name a source where a command is pending. The first of `words` is the program's name.
 pub(crate) fn begin_with_source(words: &[String]) -> bool {
     match words {
         [_, first, ..] => first.ends_with(".red") || first.ends_with(".RED"),

@@ -4,8 +4,9 @@
 //!
 //! - `options`: the numbers that options have; `settings`: the settings that they give;
 //! - `requests`: what command lines ask for;
-//! - `given`: what the arguments that `clap` took give a command, `sources` its sources, and `serving` what they give a service or one session;
-//! - `clear`: what is refused beside `clap`; `habits`: options of pMARS that are typed by habit;
+//! - `given`: what the arguments that `clap` took give a command, `sources` its sources, and `serving` what they give a
+//!   service or one session;
+//! - `clear`: what is refused besides `clap`; `habits`: options of pMARS that are typed by habit;
 //! - `words`: how arguments become a request.
 #![tactic(auto)]
 

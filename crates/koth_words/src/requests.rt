@@ -141,7 +141,8 @@ pub struct Submission<'w> {
     pub source: Source<'w>,
     /// The layout that is asked for, if one is.
     pub view: Option<View>,
-    /// Seconds for which the hill's lock is tried again if another program has it, at most 3,600; 0 if that isn't asked for.
+    /// Seconds for which the hill's lock is tried again if another program has it, at most 3,600; 0 if that isn't asked
+    /// for.
     pub wait: u32,
 }
 
@@ -199,7 +200,8 @@ pub struct Service<'w> {
 #[derive(Clone, Copy)]
 pub struct Session<'w> {
     pub hill: &'w str,
-    /// Seconds for which the hill's lock is tried again if another program has it, at most 3,600; 0 if that isn't asked for.
+    /// Seconds for which the hill's lock is tried again if another program has it, at most 3,600; 0 if that isn't asked
+    /// for.
     pub wait: u32,
     /// How many steps the assembly of a source may take.
     pub steps: u32,

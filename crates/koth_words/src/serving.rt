@@ -31,21 +31,29 @@ pub(crate) fn service_named<'w>(
     matches: &ArgMatches<'w>,
 ) -> Result<Service<'w>, AllocError>
     requires { HasAddress (rows_of (found_of matches.now)) }
-    ensures hill { IfOk result (λ service. service.hill.now ≡ text_or_none (first_of (codes "FILE") (rows_of (found_of matches.now)))) }
-    ensures port { IfOk result (λ service. service.port ≡ number_below 65536 0 (one_of (codes "port") (rows_of (found_of matches.now)))) }
-    ensures peers { IfOk result (λ service. service.peers ≡ number_or 64 (one_of (codes "peers") (rows_of (found_of matches.now)))) }
+    ensures hill { IfOk result (λ service. service.hill.now
+        ≡ text_or_none (first_of (codes "FILE") (rows_of (found_of matches.now)))) }
+    ensures port { IfOk result (λ service. service.port
+        ≡ number_below 65536 0 (one_of (codes "port") (rows_of (found_of matches.now)))) }
+    ensures peers { IfOk result (λ service. service.peers
+        ≡ number_or 64 (one_of (codes "peers") (rows_of (found_of matches.now)))) }
     ensures peers_per_address { IfOk result (λ service. service.peers_per_address
         ≡ number_given 4294967296 (one_of (codes "peers-per-address") (rows_of (found_of matches.now)))) }
-    ensures steps { IfOk result (λ service. service.steps ≡ number_or STEPS (one_of (codes "steps") (rows_of (found_of matches.now)))) }
-    ensures listen { IfOk result (λ service. IsAddress (first_of (codes "listen") (rows_of (found_of matches.now))) service.listen) }
+    ensures steps { IfOk result (λ service. service.steps
+        ≡ number_or STEPS (one_of (codes "steps") (rows_of (found_of matches.now)))) }
+    ensures listen { IfOk result (λ service. IsAddress
+        (first_of (codes "listen") (rows_of (found_of matches.now))) service.listen) }
     ensures connections { IfOk result (λ service. service.connections
         ≡ number_given 4294967296 (one_of (codes "connections") (rows_of (found_of matches.now)))) }
-    ensures http { IfOk result (λ service. service.http ≡ number_given 4294967296 (one_of (codes "http") (rows_of (found_of matches.now)))) }
+    ensures http { IfOk result (λ service. service.http
+        ≡ number_given 4294967296 (one_of (codes "http") (rows_of (found_of matches.now)))) }
     ensures hosts { IfOk result (λ service. map (λ host. host.now) service.hosts.items
         ≡ unwrap_or (all_of (codes "host") (rows_of (found_of matches.now))) []) }
-    ensures replays { IfOk result (λ service. service.replays ≡ has_flag (codes "replays") (rows_of (found_of matches.now))) }
+    ensures replays { IfOk result (λ service. service.replays
+        ≡ has_flag (codes "replays") (rows_of (found_of matches.now))) }
     ensures quiet { IfOk result (λ service. service.quiet ≡ has_flag (codes "quiet") (rows_of (found_of matches.now))) }
-    ensures create { IfOk result (λ service. service.create ≡ has_flag (codes "create") (rows_of (found_of matches.now))) }
+    ensures create { IfOk result (λ service. service.create
+        ≡ has_flag (codes "create") (rows_of (found_of matches.now))) }
 {
     Ok(Service {
         hill: file_named(matches, "FILE"),
@@ -104,8 +112,8 @@ fn writes_address(text: &str) -> bool
     }
 }
 
-/// Whether an address is one of many machines at once, to which nobody can connect: 224.0.0.0/4, 255.255.255.255, one of these as an IPv6 address, or
-/// ff00::/8.
+/// Whether an address is one of many machines at once, to which no one can connect: 224.0.0.0/4, 255.255.255.255, one
+/// of these as an IPv6 address, or ff00::/8.
 fn is_of_many(address: IpAddr) -> bool
     ensures { IsTrue result ↔ IsOfMany address }
 {

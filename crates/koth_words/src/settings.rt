@@ -71,7 +71,7 @@ pub struct Given<'w> {
     pub like: Option<&'w str>,
     /// Those of the preset, or the default ones, unless a hill has them.
     pub base: RawSettings,
-    /// What stands in place of theirs.
+    /// What is in place of theirs.
     pub chosen: Chosen,
 }
 
@@ -91,7 +91,7 @@ impl<'w> Given<'w> {
     }
 }
 
-/// Settings as one gives them: a limit of the core's size is 0. Whoever gives these has the same settings.
+/// Settings as one gives them: a limit of the core's size is 0. Anyone who gives these has the same settings.
 pub fn given_as(settings: &Settings) -> RawSettings
     ensures value { result ≡ given_as settings.now }
     ensures back { settings_of result ≡ Ok settings.now }

@@ -21,7 +21,8 @@ pub(crate) fn sources_named<'w>(
     matches: &ArgMatches<'w>,
     name: &str,
 ) -> Result<Vec<Source<'w>>, AllocError>
-    ensures { IfOk result (λ sources. map place sources.items ≡ places_named name.now (rows_of (found_of matches.now))) }
+    ensures { IfOk result (λ sources. map place sources.items
+        ≡ places_named name.now (rows_of (found_of matches.now))) }
 {
     let called = input_name(matches);
     let mut sources = Vec::new(heap);

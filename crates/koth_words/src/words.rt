@@ -19,11 +19,12 @@ use clap::{ArgMatches, Error};
 use koth_options::koth_command;
 use std::alloc::{AllocError, Global};
 
-/// What a command line asks for, where tables are in `view` unless it asks for another. The first of `words` is the program's name.
+/// What a command line asks for, where tables are in `view` unless it asks for another. The first of `words` is the
+/// program's name.
 ///
-/// Words that are taken (`AreTaken`) give the request of their command: words that `koth_app` takes by `clap`'s own definition, and that are clear
-/// (`AreClear`). Those that ask for help or for the version give that text. All others give a text that says what is wrong. Without memory for any of
-/// these the answer is `NoRequest::Memory`.
+/// Words that are taken (`AreTaken`) give the request of their command: words that `koth_app` takes by `clap`'s own
+/// definition, and that are clear (`AreClear`). Those that ask for help or for the version give that text. All others
+/// give a text that says what is wrong. Without memory for any of these the answer is `NoRequest::Memory`.
 pub fn parse(heap: Global, words: &[String], view: View) -> Result<Request<'_>, NoRequest>
     ensures request { IfOk result (λ request.
         AsksBy (subcommand_of koth_app (map (λ w. string_bytes w) words.entry.now)) request) }
