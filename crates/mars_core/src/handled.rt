@@ -2,7 +2,7 @@
 
 ghost use Rattle.mars_core.specs.{Code.addresses, Passes.{IsAt, IsExecuted}};
 
-use crate::handlers::{arm, general};
+use crate::handlers::{arm, general_apart};
 use crate::kinds::{
     A_INDIRECT, A_POST, A_PRE, ADD_AB, ADD_F, B_INDIRECT, B_POST, B_PRE, DAT, DIRECT, DJN_A, DJN_B,
     DJN_F, IMMEDIATE, JMN_B, JMN_F, JMN_X, JMP, JMZ_A, JMZ_B, JMZ_F, MOV_AB, MOV_I, NOP, SEQ_BA,
@@ -90,6 +90,6 @@ pub(crate) fn handled<const SIDE: u64, A: Allocator>(
         61 => arm::<SIDE, 61, NOP, B_INDIRECT, B_PRE, A>(core, size, pc, i),
         62 => arm::<SIDE, 62, SPL, DIRECT, A_PRE, A>(core, size, pc, i),
         63 => arm::<SIDE, 63, JMN_F, DIRECT, DIRECT, A>(core, size, pc, i),
-        _ => general::<2, A>(core, size, pc, i),
+        _ => general_apart(core, size, pc, i),
     }
 }

@@ -135,6 +135,21 @@ pub(crate) fn general<const SIDE: u64, A: Allocator>(
     by_operation::<SIDE, A>(core, size, pc, i, a, b)
 }
 
+/// The same, for the arm of `handled` that the compiler leaves out. It is no part of the loop.
+#[cold]
+#[inline(never)]
+pub(crate) fn general_apart<A: Allocator>(
+    core: &mut Core<A>,
+    size: Size,
+    pc: u32,
+    i: Word,
+) -> Queued
+    requires at { IsAt size core.old pc i.instr }
+    ensures { IsExecuted size core.old core.new pc (addresses result) }
+{
+    general::<2, A>(core, size, pc, i)
+}
+
 /// The operands of an instruction of these modes. SIDE is for the compiler alone, as for `dispatched`.
 #[inline(always)]
 pub(crate) fn pair<
