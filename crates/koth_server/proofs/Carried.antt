@@ -2,7 +2,7 @@
 use Rattle.std.proofs.Common.{◌≡◌, ◌≢◌, ◌⊎◌, ℕ, Bool, Bor, true, false, true≢false, if◌then◌else◌, is_some, ap, List, [], IfOk, Option, None, Some, Result, Ok, Err, inl, inr, ◌∙◌, refl, sym, subst, codes, option_map}
 use Rattle.{std.specs.{Prelude.{⊤, unwrap_or}, Str.bytes_eq}, std.proofs.{KnownBytes.{Consumes-nil, Keeps-refl}}, std.specs.Io.KnownBytes.Keeps, clap.specs.Walk.{Row, Text}}
 use Rattle.{clap.specs.Words.{first_of, one_of}, war_types.specs.{declared.settings.RawSettings.RawSettings, declared.settings.SettingsFault.SettingsFault, Settings.settings_of}}
-use Rattle.koth_words.specs.{Options.number_or, declared.serving.TheConstants.STEPS, Settings.{IsGiven, base_in, chosen_in, over, settings_in}, Sources.{Place, input_name, is_input as is_dash, place, place_named, places_named}, Words.{AsksBy, IsHelp, IsRefusal, given_in, has_flag, text_or_none, view_in}}
+use Rattle.koth_words.specs.{Settings.{IsGiven, base_in, chosen_in, over, settings_in}, Sources.{Place, input_name, is_input as is_dash, place, place_named, places_named}, Words.{AsksBy, IsHelp, IsRefusal, given_in, has_flag, text_or_none, view_in}}
 use Rattle.{koth_words.specs.{declared.settings.{Chosen.Chosen, Given.Given}, declared.requests.NoRequest.NoRequest}}
 use Rattle.koth_words.specs.{declared.requests.Request.Request, declared.requests.Request.TheVariants.{Asm, Check, Fight, Create, Submit, Show, Serve, Session, Audit, Migrate, Page, Replay, Try, Copy, Reseed}}
 use Rattle.{koth_words.specs.{declared.requests.Source.Source, declared.requests.View.View}, koth_commands.specs.{Answer.{AnswerParts, EndsGiven}, Asm.{EndsAsmFrom, IsDoneFrom, status_of}}}
@@ -135,8 +135,7 @@ module _ (view : View) (e : Text × List Row) (status : Status) (before after : 
   named (Serve given service) asks ends =
       subst Carries (sym asks.0) (subst (λ s. AfterNote (EndsServe (settings_of s) status) (unread before) (unread after)) asks.1 ends.0.1)
   named (Session session) asks ends = subst Carries (sym asks.0)
-      (subst (λ s. AfterNote (EndsOnFile (text_or_none (first_of (codes "FILE") e.1)) s status) before after) asks.3
-      (subst (λ h. AfterNote (EndsOnFile h session.steps status) before after) asks.1 ends.0.1))
+      (subst (λ h. AfterNote (EndsOnFile h status) before after) asks.1 ends.0.1)
   named (Audit audited) asks ends = subst Carries (sym asks.0)
       (subst (λ v. AfterNote (Ends (Answers (SaysAudit (viewed v view))) status) (unread before) (unread after)) asks.2 ends.0.1)
   named (Migrate files) asks ends = subst Carries (sym asks.0) ends.0.1
@@ -279,8 +278,8 @@ module _ (i o p e f : Option (List ℕ)) (kept : Keeps o p) (told : Tells no_mem
   serve_no_memory : (r : Result RawSettings SettingsFault) → EndsServe r NoMemory (streams None o e) (streams None p f)
   serve_no_memory r = given_no_memory None o p e f kept told (λ s. EndsService) r (λ s. service_no_memory None o p e f kept told)
 
-  session_no_memory : (path : Text) (steps : ℕ) → EndsOnFile path steps NoMemory (streams i o e) (streams i p f)
-  session_no_memory path steps = inr (record { trouble = no_memory; of_hill = refl; input = Keeps-refl i; output = kept; told = told })
+  session_no_memory : (path : Text) → EndsOnFile path NoMemory (streams i o e) (streams i p f)
+  session_no_memory path = inr (record { trouble = no_memory; of_hill = refl; input = Keeps-refl i; output = kept; told = told })
 
   under_no_memory : (like : Bool) (base : RawSettings) (chosen : Chosen) (ends : RawSettings → Type 0) → ((s : RawSettings) → ends s)
       → EndsUnderGiven like base chosen ends NoMemory (streams i o e) (streams i p f)
@@ -312,7 +311,7 @@ module _ (i o p e f : Option (List ℕ)) (kept : Keeps o p) (told : Tells no_mem
       (either (bytes_eq name (codes "migrate")) _ _ (may (Answers (SaysLine migrated_line)) refl)
       (either (bytes_eq name (codes "page")) _ _ (e, none, may (Answers SaysPage) refl)
       (either (bytes_eq name (codes "serve")) _ _ (e, none, serve_no_memory (settings_of (settings_in given)))
-      (either (bytes_eq name (codes "session")) _ _ (e, none, session_no_memory (text_or_none (first_of (codes "FILE") given)) (number_or STEPS (one_of (codes "steps") given)))
+      (either (bytes_eq name (codes "session")) _ _ (e, none, session_no_memory (text_or_none (first_of (codes "FILE") given)))
       (either (bytes_eq name (codes "replay")) _ _ (by_no_memory given (λ s. ReplayEnds given (settings_of s) NoMemory u v) (λ s. inr (kept, told)))
       (either (bytes_eq name (codes "try")) _ _ (e, none, source_no_memory i o p e f kept told of_input (SaysTrial shown))
       (either (bytes_eq name (codes "copy")) _ _ (e, none, may (Answers (SaysCopied (has_flag (codes "audit") given))) refl)

@@ -2,7 +2,7 @@
 use Rattle.std.specs.{Prelude.{◌≡◌, ◌≢◌, ◌⊎◌, ◌||◌, ⊤, ℕ, List, Option, Result, codes, is_some, option_map, unwrap_or}, Io.KnownBytes.Keeps}
 use Rattle.{clap.specs.Words.{Row, first_of, one_of}, war_types.specs.{Settings.settings_of, declared.settings.{RawSettings.RawSettings, SettingsFault.SettingsFault}}, koth_words.specs.Sources.{place, place_named, places_named}}
 use Rattle.{koth_words.specs.declared.requests.{Fighters.Fighters, Watched.Watched}, koth_contests.specs.{Fight.EndsFight, Replay.EndsReplay}}
-use Rattle.koth_words.specs.{Options.number_or, declared.serving.TheConstants.STEPS, Words.{text_or_none, draw_seed_named, form_in, given_by, given_of, has_flag, has_option, matches_in, reads_input, round_in, settings_named, view_named, AreFighters, AreTaken, AreWrong, AskForHelp, AsksFor}, declared.requests.NoRequest.NoRequest}
+use Rattle.koth_words.specs.{Words.{text_or_none, draw_seed_named, form_in, given_by, given_of, has_flag, has_option, matches_in, reads_input, round_in, settings_named, view_named, AreFighters, AreTaken, AreWrong, AskForHelp, AsksFor}, declared.requests.NoRequest.NoRequest}
 use Rattle.koth_words.specs.{declared.requests.Request.Request, declared.requests.Request.TheVariants.{Asm, Check, Fight, Create, Submit, Show, Serve, Session, Audit, Migrate, Page, Replay, Try, Copy, Reseed}}
 use Rattle.{koth_words.specs.declared.requests.View.View, koth_commands.specs.{Asm.EndsAsmFrom, Check.{EndsCheck, places_of}, Report.{Manner, manner_of}}}
 use Rattle.koth_commands.specs.{Status.status_code, Streams.{Streams, is_input, unread}, Trouble.{Tells, no_memory}, declared.status.Status.Status}
@@ -38,7 +38,7 @@ CommandEnds settings view (Audit audited) status before after =
 CommandEnds settings view (Migrate files) status before after = Ends (Answers (SaysLine migrated_line)) status (unread before) (unread after)
 CommandEnds settings view (Page file) status before after = AfterNote (Ends (Answers SaysPage) status) (unread before) (unread after)
 CommandEnds settings view (Serve given service) status before after = AfterNote (EndsServe (settings_of given) status) (unread before) (unread after)
-CommandEnds settings view (Session session) status before after = AfterNote (EndsOnFile session.hill.now session.steps status) before after
+CommandEnds settings view (Session session) status before after = AfterNote (EndsOnFile session.hill.now status) before after
 CommandEnds settings view (Replay given watched) status before after =
     EndsReplay watched.round (is_some watched.page) (settings_of settings) status (unread before) (unread after)
 CommandEnds settings view (Try files) status before after = AfterNote (EndsSource (is_input files.source) (SaysTrial (viewed files.view view)) status) before after
@@ -57,7 +57,7 @@ EndsRequest view request status before after =
 -- how `session` of what these words name ends
 abbrev pub SessionEnds : List Row → Status → Streams → Streams → Type 0
 SessionEnds rows status before after =
-    EndsOnFile (text_or_none (first_of (codes "FILE") rows)) (number_or STEPS (one_of (codes "steps") rows)) status before after
+    EndsOnFile (text_or_none (first_of (codes "FILE") rows)) status before after
 
 -- how a run ends that was asked for help or for the version: that is written, or the output failed, or memory ran out
 abbrev pub EndsHelp : Status → Type 0

@@ -1,6 +1,6 @@
 -- How `session` ends.
 use Rattle.std.specs.{Prelude.{◌≡◌, ◌⊎◌, ℕ, List, Option, None, Some, codes}, Io.KnownBytes.Keeps}
-use Rattle.{koth_hill.specs.Kept.Kept, koth_session.specs.{Spoken.Speaks, declared.sessions.SessionEnd.SessionEnd}}
+use Rattle.koth_session.specs.declared.sessions.SessionEnd.{SessionEnd}
 use Rattle.koth_commands.specs.{Cause.reason_told, Name.shown_name, Streams.Streams, Told.TellsWord, Trouble.{Tells, about_told, no_memory}}
 use Rattle.koth_commands.specs.declared.{cause.Reason.Reason, status.Status.Status, trouble.{Fault.Fault, Trouble.Trouble}}
 use Rattle.koth_server.specs.Settled.{TellsNoHill}
@@ -24,13 +24,11 @@ TellsEnd path (Some SessionEnd.StoreFailed) status old new = TellsFailed (shown_
 TellsEnd path (Some SessionEnd.Memory) status old new = Tells no_memory status old new
 TellsEnd path None status old new = (status ≡ Status.Refused) × TellsWord (codes "STEPS") old new
 
--- how it ends on this hill: after a session of which each source has these steps, and as that ended
-abbrev pub EndsOnHill : List ℕ → ℕ → Kept → Status → Streams → Streams → Type 0
-EndsOnHill path steps hill status before after =
-    (end : Option SessionEnd) × Speaks (Some steps) hill end before.input after.input before.output after.output
-    × TellsEnd path end status before.errors after.errors
+-- how it ends on the hill that was opened in this file: as its session ended
+abbrev pub EndsOnHill : List ℕ → Status → Streams → Streams → Type 0
+EndsOnHill path status before after =
+    (end : Option SessionEnd) × TellsEnd path end status before.errors after.errors
 
--- the same on some hill, which was opened in this file, or that could not be opened
-abbrev pub EndsOnFile : List ℕ → ℕ → Status → Streams → Streams → Type 0
-EndsOnFile path steps status before after =
-    ((hill : Kept) × EndsOnHill path steps hill status before after) ⊎ TellsNoHill status before after
+-- the same, or the hill could not be opened
+abbrev pub EndsOnFile : List ℕ → Status → Streams → Streams → Type 0
+EndsOnFile path status before after = EndsOnHill path status before after ⊎ TellsNoHill status before after

@@ -29,7 +29,7 @@ pub(crate) fn session<'f, R: Files + Clock, A: Allocator + Copy, I: Read, O: Wri
 ) -> Status
 where
     R::File: TryLock,
-    ensures ends { EndsOnFile session.entry.hill.now session.entry.steps result
+    ensures ends { EndsOnFile session.entry.hill.now result
         (streams (I.remaining input.old) (O.contents output.old) (E.contents errors.old))
         (streams (I.remaining input.new) (O.contents output.new) (E.contents errors.new)) }
     ensures words { result ≢ Status.WordFault }
@@ -51,7 +51,7 @@ fn session_on<'f, R: Files + Clock, A: Allocator + Copy, I: Read, O: Write, E: W
 ) -> Status
 where
     R::File: TryLock,
-    ensures ends { EndsOnHill session.entry.hill.now session.entry.steps store.old.hill result
+    ensures ends { EndsOnHill session.entry.hill.now result
         (streams (I.remaining input.old) (O.contents output.old) (E.contents errors.old))
         (streams (I.remaining input.new) (O.contents output.new) (E.contents errors.new)) }
     ensures words { result ≢ Status.WordFault }

@@ -4,7 +4,7 @@ use Rattle.koth_server.proofs.Statuses.{never-words}
 use Rattle.koth_server.proofs.one_session.session.Goals as goal
 
 pub returns-in-Ok-clause-ends : goal.returns-in-Ok-clause-ends
-returns-in-Ok-clause-ends g c = inl (_, c.session_on.ensures.ends)
+returns-in-Ok-clause-ends g c = inl c.session_on.ensures.ends
 
 pub returns-in-Err-clause-ends : goal.returns-in-Err-clause-ends
 returns-in-Err-clause-ends g c = inr record {
