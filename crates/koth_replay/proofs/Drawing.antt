@@ -29,7 +29,7 @@ mode_read m = refl
 one_of : {X : Type 0} (code : X → ℕ) (at : ℕ → X) (read : (x : X) → at (code x) ≡ x) (a b : X) → (code a == code b) ≡ true → a ≡ b
 one_of code at read a b e = sym (read a) ∙ ap at (eqb-true (code a) (code b) e) ∙ read b
 
-are_equal-same : (a b : Instr) → are_equal Modifier.I a b ≡ true → a ≡ b
+pub are_equal-same : (a b : Instr) → are_equal Modifier.I a b ≡ true → a ≡ b
 are_equal-same a b e =
     let all = and_parts (kinds_equal a b) (numbers_equal Modifier.I a b) e in
     let kinds = and_parts (op_code a.op == op_code b.op && modifier_code a.modifier == modifier_code b.modifier && mode_code a.a_mode == mode_code b.a_mode) (mode_code a.b_mode == mode_code b.b_mode) all.0 in
@@ -140,7 +140,7 @@ side_draws Side.Second r core queue here there follows =
     ∙ second_draws core r.first (drop 1 r.second) (drop (length r.second - 1) queue)
     ∙ ap (λ q. picture core r.first q Side.First) follows
 
-after_turn-goes : (r : Round) → is_over r ≡ false → after_turn r ≡ after_side r.to_move (turn_of r).core (turn_of r).queue r
+pub after_turn-goes : (r : Round) → is_over r ≡ false → after_turn r ≡ after_side r.to_move (turn_of r).core (turn_of r).queue r
 unfolding after_turn
 after_turn-goes r o = rw o refl
 

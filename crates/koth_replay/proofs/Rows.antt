@@ -1,8 +1,8 @@
 -- Turns as events and events as pictures, of small cores: 64 cells, the first side's process at 0, the second's at 63.
-use Rattle.{std.proofs.Common.{◌≡◌, ℕ, List, [], ◌∷◌, ◌++◌, ◌-◌, length, replicate, refl}, war_types.specs.{declared.instr.Op.Op, declared.instr.Modifier.Modifier, declared.instr.Mode.Mode}}
+use Rattle.{std.proofs.Common.{◌≡◌, ℕ, List, [], ◌∷◌, ◌++◌, ◌-◌, length, replicate, true, false, refl, sym, ap, subst, arith}, war_types.specs.{declared.instr.Op.Op, declared.instr.Modifier.Modifier, declared.instr.Mode.Mode}}
 use Rattle.war_types.specs.{declared.instr.Instr.Instr, declared.settings.RawSettings.RawSettings, Warrior.{WarriorParts, warrior_parts}}
-use Rattle.mars_core.specs.{Cells.blank, Operand.operand, Effect.effect, Round.{Round, executed, side_turn, after_turn, after_turns}, declared.round.Side.Side}
-use Rattle.koth_replay.specs.{Picture.{picture, picture_of, drawn}, Turn.{core_events, turn_events}, Replay.{begun, turns_in}, declared.event.Event.Event}
+use Rattle.mars_core.specs.{Cells.blank, Operand.operand, Effect.{are_equal, effect}, Round.{Round, executed, side_turn, after_turn, after_turns}, declared.round.Side.Side}
+use Rattle.koth_replay.specs.{Picture.{picture, picture_of, drawn}, Turn.{core_events, turn_events}, Replay.{begun, turns_in}, Story.{IsFall, IsKept}, declared.event.Event.Event, declared.story.Writer.Writer}
 
 abbrev small : RawSettings
 small = record { core = 64; cycles = 100; processes = 8; length = 10; distance = 10; rounds = 2; seed = 1; capacity = 2; read_limit = 64; write_limit = 64 }
@@ -98,3 +98,40 @@ ends_at_once = refl
 ends_second : turns_in small (alone blank) (alone imp) 1 ≡ 2
 unfolding operand effect executed side_turn after_turn after_turns
 ends_second = refl
+
+-- ---- why a round ended
+
+-- the warrior of DAT.F $0,$0 of round 0 ends in turn 1, at 0, where it was loaded
+ends_as_loaded : IsFall (begun small (alone blank) (alone imp) 0) (blank ∷ []) (imp ∷ []) 11 (record { side = Side.First; turn = 1; at = 0; instr = blank; writer = Writer.Loaded Side.First })
+unfolding operand effect executed side_turn after_turn after_turns
+ends_as_loaded = record {
+  turn = refl;
+  least = omega arith;
+  mover = refl;
+  process = refl;
+  instr = refl;
+  writer = (λ n least below. absurd (omega (arith, least, below)), omega arith);
+}
+
+-- MOV.I $2,$1 before DAT.F $0,$0: it writes what ends it, DAT.F #0,#0, in turn 1, and executes that in turn 3
+abbrev suicide : WarriorParts
+suicide = warrior_parts (direct Op.Mov Modifier.I 2 1 ∷ direct Op.Nop Modifier.B 0 0 ∷ instr Op.Dat Modifier.F Mode.Immediate 0 Mode.Immediate 0 ∷ []) 0 (65 ∷ []) (65 ∷ [])
+
+ends_itself : IsFall (begun small suicide (alone imp) 0) suicide.code (imp ∷ []) 11
+    (record { side = Side.First; turn = 3; at = 1; instr = instr Op.Dat Modifier.F Mode.Immediate 0 Mode.Immediate 0; writer = Writer.Turn Side.First 1 })
+unfolding operand effect executed side_turn after_turn after_turns
+ends_itself = record {
+  turn = refl;
+  least = omega arith;
+  mover = refl;
+  process = refl;
+  instr = refl;
+  writer = record {
+    least = omega arith;
+    earlier = omega arith;
+    moves = refl;
+    changes = λ same.
+        (let differs : true ≡ false = ap (λ (i : Instr). are_equal Modifier.I i (instr Op.Dat Modifier.F Mode.Immediate 0 Mode.Immediate 0)) same in cc);
+    last = λ k after below. (let second : k ≡ 2 = omega (arith, after, below) in subst (λ (n : ℕ). IsKept (begun small suicide (alone imp) 0) 1 n) (sym second) refl);
+  };
+}

@@ -32,7 +32,7 @@ blank-there size at below = sym (get_or-replicate size at blank blank below)
 same_number : (n : ℕ) → (n == n) ≡ true
 same_number n = grind (arith, nat_tests)
 
-same_instruction : (i : Instr) → are_equal Modifier.I i i ≡ true
+pub same_instruction : (i : Instr) → are_equal Modifier.I i i ≡ true
 same_instruction i =
     rw (same_number (op_code i.op), same_number (modifier_code i.modifier), same_number (mode_code i.a_mode), same_number (mode_code i.b_mode), same_number i.a, same_number i.b) refl
 

@@ -12,7 +12,7 @@ use std::alloc::{AllocError, Allocator};
 use war_types::{Instr, Mode, Modifier, Op};
 
 /// What a cell holds if nothing was loaded into it.
-const BLANK: Instr = Instr {
+pub(crate) const BLANK: Instr = Instr {
     op: Op::Dat,
     modifier: Modifier::F,
     a_mode: Mode::Direct,
@@ -89,7 +89,7 @@ fn push_change<A: Allocator>(
 }
 
 /// Whether two instructions are the same.
-fn is_same(a: Instr, b: Instr) -> bool
+pub(crate) fn is_same(a: Instr, b: Instr) -> bool
     ensures { result ≡ are_equal modifiers.I a b }
 {
     a.op.code() == b.op.code()

@@ -94,7 +94,7 @@ fn push_processes<A: Allocator, B: Allocator>(
 }
 
 /// The side that isn't this one.
-fn other(side: Side) -> Side
+pub(crate) fn other(side: Side) -> Side
     ensures { result ≡ other side }
 {
     match side {
