@@ -2,6 +2,7 @@
 use Rattle.std.specs.Prelude.{◌≡◌, ℕ, ◌+◌, ◌-◌, Bool, true, false, if◌then◌else◌, Option, None, Some, MatchOption, List, [], Result, Ok, Err}
 use Rattle.war_types.specs.{Settings.is_from_to, Warrior.WarriorParts, declared.settings.RawSettings.RawSettings, declared.settings.SettingsFault.SettingsFault}
 use Rattle.{koth_words.specs.declared.requests.{Round.Round, View.View}, mars_core.specs.declared.round.Outcome.Outcome, koth_replay.specs.Replay.{IsReplay, ReplayParts}, koth_watch.specs.Page.round_page}
+use Rattle.{koth_replay.specs.{Story.IsStory, declared.story.Story.Story}, koth_watch.specs.declared.sentence.Told.Told}
 use Rattle.koth_commands.specs.{Answer.{AnswerParts, EndsGiven, answer_parts}, Pair.IsWarriorOf, Streams.Streams, declared.status.Status.Status}
 use Rattle.koth_contests.specs.{Pair.EndsMatch, Rounds.IsFirst, declared.replay.TheConstants.MOST_TURNS}
 
@@ -47,11 +48,18 @@ abbrev pub IsFirstNumber : RawSettings → WarriorParts → WarriorParts → Out
 IsFirstNumber s older younger wanted found = MatchOption found (IsFirst s older younger wanted None)
     (λ number. IsFirstAt s older younger wanted number × (has_round s number ≡ true))
 
--- the text is the page of that round of the match of these warriors: it has the events that draw the round after each turn
+-- what is said of a round, counted from 0, that ended so
+abbrev pub told_of : RawSettings → ℕ → Story → Told
+told_of s place story = record { round = place; rounds = s.rounds; core = s.core; story = story }
+
+-- the text is the page of that round of the match of these warriors: it has the events that draw the round after each turn, and says how
+-- the round ended, at the end of all of its turns, and why
 pub record IsRoundText (s : RawSettings) (older younger : WarriorParts) (round : ℕ) (text : List ℕ) : Type 0 where
   pub replay : ReplayParts
+  pub story : Story
   pub plays : IsReplay s older younger (round - 1) MOST_TURNS replay
-  pub tells : text ≡ round_page older younger (round - 1) replay
+  pub ends : IsStory s older younger (round - 1) story
+  pub tells : text ≡ round_page older younger (told_of s (round - 1) story) replay
 
 -- the page of the match of two warriors whose sources assemble
 pub record IsWatched (s : RawSettings) (round : Round) (text : List ℕ) : Type 0 where

@@ -2,13 +2,14 @@
 
 ghost use Rattle.std.specs.Prelude.{◌≡◌, ◌+◌, ◌-◌, ◌<◌, true, false, None, IfErr, IfOk, OnOk, MatchOption, MatchResult, is_some, option_map};
 ghost use Rattle.{war_types.specs.{Settings.settings_of, Warrior.Fits}, koth_commands.specs.{Streams.streams, Told.TellsWord, Trouble.{IsReadFault, settings_word}}};
-ghost use Rattle.koth_contests.specs.{Pair.{ArePairOf, IsAnswer}, Replay.{has_round, may_have, with_page, EndsReplay, EndsReplayUnder, HasNone, IsFirstNumber, IsNumber, IsPage, IsRoundText, IsWatched}};
+ghost use Rattle.koth_contests.specs.{Pair.{ArePairOf, IsAnswer}, Replay.{has_round, may_have, told_of, with_page, EndsReplay, EndsReplayUnder, HasNone, IsFirstNumber, IsNumber, IsPage, IsRoundText, IsWatched}};
 
 use crate::pair::{Pair, answer_none, pair_from};
 use crate::rounds::first_round;
 use koth_commands::trouble::Trouble;
 use koth_commands::{Answer, Status, deliver, reason_of, refuse_settings};
-use koth_watch::round_page;
+use koth_replay::{Story, story_of};
+use koth_watch::{Told, round_page};
 use koth_words::{Round, View, Watched};
 use mars_core::{Arena, Outcome};
 use std::alloc::{AllocError, Allocator};
@@ -262,7 +263,21 @@ pub fn round_text<A: Allocator + Copy, B: Allocator, C: Allocator>(
     let replay = koth_replay::replay(
         alloc, &mut arena, older, younger, settings, place, MOST_TURNS,
     )?;
-    round_page(alloc, older, younger, place, &replay)
+    let story = story_of(&mut arena, older, younger, settings, place);
+    let told = told_of(settings, place, story);
+    round_page(alloc, older, younger, &told, &replay)
+}
+
+/// What is said of a round, counted from 0, that ended so.
+fn told_of(settings: &Settings, place: u16, story: Story) -> Told
+    ensures { result ≡ told_of settings.now place story }
+{
+    Told {
+        round: place,
+        rounds: settings.rounds(),
+        core: settings.core(),
+        story,
+    }
 }
 
 /// The place of a round, counted from 0. `round` counts from 1.

@@ -1,11 +1,11 @@
 -- The last turn of a round, and the side that it lost it for, for `last_turn` and `story_of`.
-use Rattle.std.proofs.Common.{◌≡◌, ◌⊎◌, ℕ, zero, suc, ◌+◌, ◌-◌, ◌*◌, ◌<◌, ◌≤◌, ◌==◌, ◌||◌, not, Bool, true, false, if◌then◌else◌, List, [], ◌∷◌, ◌++◌, length, take, MatchOption, Option, Some, None, slice_get, slice_index, inl, inr}
+use Rattle.std.proofs.Common.{◌≡◌, ◌⊎◌, ℕ, zero, suc, ◌+◌, ◌-◌, ◌≤◌, ◌==◌, ◌||◌, not, Bool, true, false, if◌then◌else◌, List, [], ◌∷◌, length, MatchOption, Option, Some, None, slice_get, slice_index, inl, inr}
 use Rattle.{std.proofs.{Common.{refl, sym, ap, subst, ◌∙◌, eqb-true, arith}, lemmas.Bool.{both_ways, or_parts}}, war_types.specs.{declared.instr.Instr.Instr, declared.settings.RawSettings.RawSettings, Warrior.WarriorParts}}
 use Rattle.mars_core.specs.{declared.round.Side.Side, declared.round.Outcome.Outcome, Operand.Reach, Cells.cell}
-use Rattle.mars_core.specs.Round.{Round, executed, is_empty, is_over, queue_of, reach_of, side_turn, turn_of, after_side, after_turn, after_turns, outcome, outcome_of, IsRound}
+use Rattle.mars_core.specs.Round.{Round, is_empty, is_over, queue_of, reach_of, side_turn, turn_of, after_side, after_turn, after_turns, outcome, outcome_of, IsRound}
 use Rattle.{mars_core.proofs.Turns.both_sides_live, koth_match.specs.{Match.round_outcome, Seeds.{position, seed_of_round}}, koth_match.proofs.Kept.after_turns-settings}
 use Rattle.koth_replay.proofs.{Drawing.after_turn-goes, Endings.{after_turn-used, front-found}}
-use Rattle.koth_replay.specs.{declared.ending.Made.Made, declared.story.{Fall.Fall, Story.Story, Writer.Writer}, Replay.begun, Story.{end_of, lost_by, round_before, IsFall, IsStory, IsWriter}}
+use Rattle.koth_replay.specs.{declared.ending.Made.Made, declared.story.{Story.Story, Writer.Writer}, Replay.begun, Story.{end_of, lost_by, round_before, IsFall, IsStory, IsWriter}}
 use Rattle.koth_replay.specs.Ending.{fall_of, told, IsFront, IsMade}
 
 -- ---- the turn that is made

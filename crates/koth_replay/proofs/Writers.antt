@@ -1,9 +1,9 @@
 -- The last change of a cell, and whose instruction was loaded there, for `last_change` and `writer`.
-use Rattle.std.proofs.Common.{◌≡◌, ◌≢◌, ◌⊎◌, ℕ, zero, suc, ◌+◌, ◌-◌, ◌<◌, ◌≤◌, nat_lt, Bool, true, false, if◌then◌else◌, List, [], ◌∷◌, length, MatchOption, Option, Some, None, slice_get, slice_index_or, inl, inr}
+use Rattle.std.proofs.Common.{◌≡◌, ◌≢◌, ℕ, zero, suc, ◌+◌, ◌-◌, ◌<◌, ◌≤◌, nat_lt, Bool, true, false, if◌then◌else◌, List, [], ◌∷◌, length, Option, Some, None, slice_get, inl, inr}
 use Rattle.{std.proofs.{Common.{refl, sym, ap, subst, ◌∙◌, arith}, lemmas.Bool.{both_ways, cases_lt}, lemmas.Bool.Decides.nat_tests}, war_types.specs.{declared.instr.Instr.Instr, declared.instr.Modifier.Modifier}}
 use Rattle.mars_core.specs.{declared.round.Side.Side, Cells.{blank, cell}, Effect.are_equal, Round.{Round, is_over, after_turn, after_turns}}
-use Rattle.{mars_core.proofs.Turns.after_turns-over, koth_replay.proofs.{Drawing.are_equal-same, Endings.after_turns-next, Histories.one_more, Untold.same_instruction}}
-use Rattle.koth_replay.specs.{declared.ending.Change.Change, declared.story.Writer.Writer, Story.{round_before, IsKept, IsLastChange, IsUntouched, IsWriter}, Ending.{loader_of, writer_of, IsChange}}
+use Rattle.{mars_core.proofs.Turns.after_turns-over, koth_replay.proofs.{Drawing.are_equal-same, Histories.one_more, Untold.same_instruction}}
+use Rattle.koth_replay.specs.{declared.ending.Change.Change, declared.story.Writer.Writer, Story.{round_before, IsKept, IsUntouched, IsWriter}, Ending.{writer_of, IsChange}}
 
 -- nothing is loaded past the end of a core
 pub not-found : (core : List Instr) (at : ℕ) → slice_get core at ≡ None → blank ≡ cell core at

@@ -7,7 +7,11 @@ use Rattle.{koth_replay.specs.{declared.opening.Opening.Opening, Replay.ReplayPa
 use Rattle.koth_text.proofs.Ascii.{Pass, Ascii, both, each, weaker, page_byte, harmless_decimal, ascii_decimal, ascii_escaped}
 use Rattle.koth_watch.specs.{declared.drawing.TheConstants.DRAWING_SCRIPT, declared.parts.TheConstants.{CONTROLS, END, HEAD, STYLE}, declared.script.TheConstants.ROUND_SCRIPT}
 use Rattle.koth_watch.specs.Data.{cell_text, comma_before, data_text, event_at, event_text, events_text, opening_text, place_text, processes_text, side_text, start_text, turn_at, turn_text}
-use Rattle.koth_watch.specs.{Data.turns_text, Heading.{cut_told, ending_text, outcome_text, round_told, sides_text, turns_told, warrior_text, warriors_text, whole_told, winner_text}}
+use Rattle.koth_watch.specs.{Data.turns_text, Heading.{cut_told, ending_text, outcome_text, round_told, sides_text, turns_told, warrior_text, warriors_text, whole_told, why_text, winner_text}}
+use Rattle.{koth_replay.specs.declared.story.{Fall.Fall, Story.Story, Writer.Writer}, koth_watch.specs.declared.{sentence.Told.Told, shown.Form.Form}}
+use Rattle.koth_watch.specs.Shown.{instruction_shown, mode_sign, operand_shown, operation_shown, turn_link, turn_named}
+use Rattle.koth_watch.specs.Sentence.{end_text, fall_text, itself, left_text, loaded_text, place_named, processes_word, round_named, sentence_text, story_text, tie_named, tie_text, warrior_at}
+use Rattle.koth_watch.specs.Sentence.{won_text, writer_text, wrote_text}
 use Rattle.koth_watch.specs.{Instruction.{instruction_text, number_text, operand_text, sign_text}, Laws.is_data_byte, Page.{heading_text, round_page, scripts_text}}
 
 -- ---- the data
@@ -137,21 +141,118 @@ unfolding cut_told whole_told
 ascii_turns_told true turns = simp (list_all-append, ascii_decimal)
 ascii_turns_told false turns = simp (list_all-append, ascii_decimal)
 
-ascii_ending : (older younger : WarriorParts) (round : ℕ) (r : ReplayParts) → Ascii (ending_text older younger round r)
-unfolding ending_text round_told
-ascii_ending older younger round r = simp (list_all-append, ascii_decimal, ascii_outcome, ascii_turns_told)
+-- ---- the sentence
 
-ascii_heading : (older younger : WarriorParts) (round : ℕ) (r : ReplayParts) → Ascii (heading_text older younger round r)
+ascii_op : (op : Op) → Ascii (op_text op)
+ascii_op op = weaker is_data_byte is_page_byte (λ b h. (and_parts (is_page_byte b) (not (eqb b 60)) h).0) (op_text op) (data_op op)
+
+ascii_modifier : (modifier : Modifier) → Ascii (modifier_text modifier)
+ascii_modifier modifier = weaker is_data_byte is_page_byte (λ b h. (and_parts (is_page_byte b) (not (eqb b 60)) h).0) (modifier_text modifier) (data_modifier modifier)
+
+ascii_number : (core n : ℕ) → Ascii (number_text core n)
+ascii_number core n = weaker is_data_byte is_page_byte (λ b h. (and_parts (is_page_byte b) (not (eqb b 60)) h).0) (number_text core n) (data_number core n)
+
+ascii_sign : (mode : Mode) → Ascii (mode_sign Form.Page mode)
+ascii_sign Mode.Immediate = refl
+ascii_sign Mode.Direct = refl
+ascii_sign Mode.AIndirect = refl
+ascii_sign Mode.BIndirect = refl
+ascii_sign Mode.APre = refl
+ascii_sign Mode.BPre = refl
+ascii_sign Mode.APost = refl
+ascii_sign Mode.BPost = refl
+
+ascii_operand : (core : ℕ) (mode : Mode) (n : ℕ) → Ascii (operand_shown Form.Page core mode n)
+unfolding operand_shown
+ascii_operand core mode n = both is_page_byte (mode_sign Form.Page mode) (number_text core n) (ascii_sign mode) (ascii_number core n)
+
+ascii_operation : (i : Instr) → Ascii (operation_shown i)
+unfolding operation_shown
+ascii_operation i = simp (list_all-append, ascii_op, ascii_modifier)
+
+ascii_shown : (core : ℕ) (i : Instr) → Ascii (instruction_shown Form.Page core i)
+unfolding instruction_shown
+ascii_shown core i = simp (list_all-append, ascii_operation, ascii_operand)
+
+ascii_turn : (n : ℕ) → Ascii (turn_named Form.Page n)
+unfolding turn_link
+ascii_turn n = simp (list_all-append, ascii_decimal)
+
+ascii_round_named : (round rounds : ℕ) → Ascii (round_named round rounds)
+unfolding round_named
+ascii_round_named round rounds = simp (list_all-append, ascii_decimal)
+
+ascii_won : (winner : List ℕ) (told : Told) → Ascii (won_text Form.Page winner told)
+unfolding won_text
+ascii_won winner told = simp (list_all-append, ascii_escaped, ascii_round_named)
+
+ascii_place : (at : ℕ) → Ascii (place_named at)
+unfolding place_named
+ascii_place at = simp (list_all-append, ascii_decimal)
+
+ascii_end : (loser : List ℕ) (core : ℕ) (fall : Fall) → Ascii (end_text Form.Page loser core fall)
+unfolding end_text
+ascii_end loser core fall = simp (list_all-append, ascii_escaped, ascii_shown, ascii_place, ascii_turn)
+
+ascii_itself : (loser side : Side) → Ascii (itself loser side)
+ascii_itself Side.First Side.First = refl
+ascii_itself Side.First Side.Second = refl
+ascii_itself Side.Second Side.First = refl
+ascii_itself Side.Second Side.Second = refl
+
+ascii_wrote : (loser side : Side) (name : List ℕ) (turn : ℕ) → Ascii (wrote_text Form.Page loser side name turn)
+unfolding wrote_text
+ascii_wrote loser side name turn = simp (list_all-append, ascii_escaped, ascii_itself, ascii_turn)
+
+ascii_loaded : (name : List ℕ) → Ascii (loaded_text Form.Page name)
+unfolding loaded_text
+ascii_loaded name = simp (list_all-append, ascii_escaped)
+
+ascii_writer : (loser : Side) (older younger : WarriorParts) (w : Writer) → Ascii (writer_text Form.Page loser older younger w)
+ascii_writer loser older younger (Writer.Turn side turn) = ascii_wrote loser side (warrior_at side older younger).name turn
+ascii_writer loser older younger (Writer.Loaded side) = ascii_loaded (warrior_at side older younger).name
+ascii_writer loser older younger Writer.Nobody = refl
+
+ascii_fall : (older younger : WarriorParts) (told : Told) (fall : Fall) → Ascii (fall_text Form.Page older younger told fall)
+unfolding fall_text
+ascii_fall older younger told fall = simp (list_all-append, ascii_won, ascii_end, ascii_writer)
+
+ascii_word : (n : ℕ) → Ascii (processes_word n)
+ascii_word n = cond_both (eqb n 1) (codes " process") (codes " processes") Ascii (λ _. refl) (λ _. refl)
+
+ascii_left : (name : List ℕ) (n : ℕ) → Ascii (left_text Form.Page name n)
+unfolding left_text
+ascii_left name n = simp (list_all-append, ascii_escaped, ascii_decimal, ascii_word)
+
+ascii_tie : (older younger : WarriorParts) (told : Told) (a b : ℕ) → Ascii (tie_text Form.Page older younger told a b)
+unfolding tie_text tie_named
+ascii_tie older younger told a b = simp (list_all-append, ascii_decimal, ascii_left)
+
+ascii_story : (older younger : WarriorParts) (told : Told) (story : Story) → Ascii (story_text Form.Page older younger told story)
+ascii_story older younger told (Story.Fell fall) = ascii_fall older younger told fall
+ascii_story older younger told (Story.Tied a b) = ascii_tie older younger told a b
+
+ascii_why : (older younger : WarriorParts) (told : Told) → Ascii (why_text older younger told)
+unfolding why_text
+ascii_why older younger told =
+    let sentence = sentence_text Form.Page older younger told in
+    both is_page_byte (codes "<p>" ++ sentence) (codes "</p>\n") (both is_page_byte (codes "<p>") sentence refl (ascii_story older younger told told.story)) refl
+
+ascii_ending : (older younger : WarriorParts) (told : Told) (r : ReplayParts) → Ascii (ending_text older younger told r)
+unfolding ending_text round_told
+ascii_ending older younger told r = simp (list_all-append, ascii_decimal, ascii_outcome, ascii_turns_told, ascii_why)
+
+ascii_heading : (older younger : WarriorParts) (told : Told) (r : ReplayParts) → Ascii (heading_text older younger told r)
 unfolding heading_text
-ascii_heading older younger round r =
+ascii_heading older younger told r =
     let named = sides_text older younger in
     let first = HEAD.now ++ named in
     let second = first ++ STYLE.now ++ named ++ codes "</h1>\n" in
-    both is_page_byte second (ending_text older younger round r)
+    both is_page_byte second (ending_text older younger told r)
     (both is_page_byte (first ++ STYLE.now ++ named) (codes "</h1>\n")
     (both is_page_byte (first ++ STYLE.now) named
     (both is_page_byte first STYLE.now (both is_page_byte HEAD.now named refl (ascii_sides older younger)) refl) (ascii_sides older younger)) refl)
-    (ascii_ending older younger round r)
+    (ascii_ending older younger told r)
 
 ascii_warriors : (older younger : WarriorParts) → Ascii (warriors_text older younger)
 unfolding warrior_text warriors_text
@@ -161,10 +262,10 @@ ascii_scripts : Ascii scripts_text
 unfolding scripts_text
 ascii_scripts = both is_page_byte ROUND_SCRIPT.now DRAWING_SCRIPT.now refl refl
 
-pub ascii : (older younger : WarriorParts) (round : ℕ) (r : ReplayParts) → list_all is_page_byte (round_page older younger round r) ≡ true
+pub ascii : (older younger : WarriorParts) (told : Told) (r : ReplayParts) → list_all is_page_byte (round_page older younger told r) ≡ true
 unfolding round_page
-ascii older younger round r =
-    let heading = heading_text older younger round r in
+ascii older younger told r =
+    let heading = heading_text older younger told r in
     let first = heading ++ warriors_text older younger in
     let second = first ++ CONTROLS.now in
     let third = second ++ data_text r in
@@ -172,5 +273,5 @@ ascii older younger round r =
     (both is_page_byte third scripts_text
     (both is_page_byte second (data_text r)
     (both is_page_byte first CONTROLS.now
-    (both is_page_byte heading (warriors_text older younger) (ascii_heading older younger round r) (ascii_warriors older younger)) refl)
+    (both is_page_byte heading (warriors_text older younger) (ascii_heading older younger told r) (ascii_warriors older younger)) refl)
     (ascii_data r)) ascii_scripts) refl

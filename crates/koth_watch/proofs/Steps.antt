@@ -1,5 +1,5 @@
--- One element more of a list, in the loops that put turns and events.
-use Rattle.{std.proofs.Common.{◌≡◌, ℕ, ◌+◌, ◌<◌, ◌≤◌, suc, List, ◌++◌, length, take, get_or, ap, ◌∙◌, arith}, std.specs.List.{enumerate_from, flat_map}, std.proofs.lemmas.List.take_all}
+-- One element more of a list, in the loops that put turns and events, and the last part of a text.
+use Rattle.{std.proofs.Common.{◌≡◌, ℕ, ◌+◌, ◌<◌, ◌≤◌, suc, List, Result, Ok, Err, OnOk, ◌++◌, length, take, get_or, ap, ◌∙◌, arith}, std.specs.Prelude.{is_ok, if◌then◌else◌}, std.specs.List.{enumerate_from, flat_map}, std.proofs.lemmas.List.take_all}
 use Rattle.koth_text.proofs.Steps.{next_ranked, put_behind}
 
 pub one_more : {X : Type 0} (f : ℕ × X → List ℕ) (xs : List X) (i : ℕ) (d : X) (start now new : List ℕ) → i < length xs
@@ -14,3 +14,9 @@ one_more f xs i d start now new below so_far put =
 pub all_put : {X : Type 0} (f : ℕ × X → List ℕ) (xs : List X) (i : ℕ) (start now : List ℕ) → length xs ≤ i
     → now ≡ start ++ flat_map f (enumerate_from 0 (take i xs)) → now ≡ start ++ flat_map f (enumerate_from 0 xs)
 all_put {X} f xs i start now end so_far = so_far ∙ ap (λ (ys : List X). start ++ flat_map f (enumerate_from 0 ys)) (take_all i xs end)
+
+-- the last part was put, if there was room for it
+pub last_part : {T E : Type 0} (result : Result T E) (start part new : List ℕ) → new ≡ (if is_ok result then start ++ part else start)
+    → OnOk result (new ≡ start ++ part)
+last_part (Ok value) start part new put = put
+last_part (Err error) start part new put = tt

@@ -1,6 +1,7 @@
 -- What a page says of its round in words.
 use Rattle.std.specs.Prelude.{ℕ, ◌+◌, Bool, if◌then◌else◌, List, ◌++◌, length, codes, decimal}
 use Rattle.{war_types.specs.Warrior.WarriorParts, mars_core.specs.declared.round.Outcome.Outcome, koth_replay.specs.Replay.ReplayParts, koth_text.specs.Escape.escaped}
+use Rattle.koth_watch.specs.{declared.sentence.Told.Told, declared.shown.Form.Form, Sentence.sentence_text}
 use Rattle.koth_watch.specs.declared.parts.TheConstants.{OLDER_START, WARRIORS_END, YOUNGER_START}
 
 -- who fights whom
@@ -30,9 +31,14 @@ turns_told is_cut turns = if is_cut then cut_told turns else whole_told turns
 unfoldable pub round_told : ℕ → ℕ → List ℕ
 round_told round core = codes "<p>Round " ++ decimal (round + 1) ++ codes " in a core of " ++ decimal core ++ codes " cells: "
 
+-- how it ended, and why
+unfoldable pub why_text : WarriorParts → WarriorParts → Told → List ℕ
+why_text older younger told = codes "<p>" ++ sentence_text Form.Page older younger told ++ codes "</p>\n"
+
 -- which round it is, and how it ended
-unfoldable pub ending_text : WarriorParts → WarriorParts → ℕ → ReplayParts → List ℕ
-ending_text older younger round r = round_told round r.opening.core ++ outcome_text older younger r.outcome ++ turns_told r.is_cut (length r.turns)
+unfoldable pub ending_text : WarriorParts → WarriorParts → Told → ReplayParts → List ℕ
+ending_text older younger told r =
+    round_told told.round r.opening.core ++ outcome_text older younger r.outcome ++ turns_told r.is_cut (length r.turns) ++ why_text older younger told
 
 -- a warrior with its author, and both of them
 unfoldable pub warrior_text : WarriorParts → List ℕ

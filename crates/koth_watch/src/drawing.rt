@@ -92,8 +92,10 @@ function place() {
 function textOf(cell) {
   const wrote = shown.writers[cell];
   const ran = shown.runners[cell];
-  if (ran) return 'executed by ' + names[ran - 1];
-  return wrote ? 'written by ' + names[wrote - 1] : '';
+  const words = [];
+  if (wrote) words.push('written by ' + names[wrote - 1]);
+  if (ran) words.push('executed by ' + names[ran - 1]);
+  return words.join(', ');
 }
 
 function drawListing() {
@@ -176,7 +178,26 @@ element('play').addEventListener('click', () => (playing ? stop() : start()));
 element('back').addEventListener('click', () => stopAt(shown.turn - 1));
 element('step').addEventListener('click', () => stopAt(shown.turn + 1));
 element('slider').addEventListener('input', (event) => stopAt(Number(event.target.value)));
-window.addEventListener('hashchange', () => go(Number(location.hash.slice(1))));
+window.addEventListener('hashchange', () => stopAt(Number(location.hash.slice(1))));
+
+// What a key does; null if nothing. Space is left to a button, and every key to the slider and the speed.
+function actionOf(key, control) {
+  if (control === 'INPUT' || control === 'SELECT') return null;
+  if (key === ' ') return control === 'BUTTON' ? null : () => (playing ? stop() : start());
+  if (key === 'ArrowLeft' || key === ',') return () => stopAt(shown.turn - 1);
+  if (key === 'ArrowRight' || key === '.') return () => stopAt(shown.turn + 1);
+  if (key === 'Home') return () => stopAt(0);
+  if (key === 'End') return () => stopAt(turns);
+  return null;
+}
+
+window.addEventListener('keydown', (event) => {
+  if (event.ctrlKey || event.altKey || event.metaKey) return;
+  const action = actionOf(event.key, event.target.tagName);
+  if (action === null) return;
+  event.preventDefault();
+  action();
+});
 window.addEventListener('resize', fit);
 window.matchMedia('(prefers-color-scheme: dark)').addEventListener('change', () => {
   readColours();

@@ -1,9 +1,11 @@
 //! What a page says of its round in words.
 
 ghost use Rattle.std.specs.Prelude.{◌≡◌, ◌+◌, ◌≤◌, ◌++◌, length, codes, decimal, OnOk};
-ghost use Rattle.koth_watch.specs.Heading.{cut_told, ending_text, outcome_text, round_told, sides_text, turns_told, warrior_text, warriors_text, whole_told, winner_text};
+ghost use Rattle.koth_watch.specs.Heading.{cut_told, ending_text, outcome_text, round_told, sides_text, turns_told, warrior_text, warriors_text, whole_told, why_text, winner_text};
 
 use crate::parts::{OLDER_START, WARRIORS_END, YOUNGER_START};
+use crate::sentence::{Told, put_sentence};
+use crate::shown::Form;
 use koth_replay::Replay;
 use koth_text::Piece::{Escaped, Text};
 use koth_text::{Line, put_all, put_line};
@@ -30,20 +32,36 @@ pub(crate) fn put_sides<'w, A: Allocator, B: Allocator, C: Allocator>(
     )
 }
 
-/// Puts which round it is, counted from 0, and how it ended.
+/// Puts which round it is, how it ended, and why.
 #[tactic(auto, unfolding(crate::specs::Heading::ending_text))]
 pub(crate) fn put_ending<A: Allocator, B: Allocator, C: Allocator, D: Allocator>(
     page: &mut Vec<u8, A>,
     older: &Warrior<B>,
     younger: &Warrior<C>,
-    round: u16,
+    told: &Told,
     replay: &Replay<D>,
 ) -> Result<(), AllocError>
-    ensures { OnOk result (page.new.items ≡ page.old.items ++ ending_text older.now younger.now round replay.now) }
+    ensures { OnOk result (page.new.items ≡ page.old.items ++ ending_text older.now younger.now told.now replay.now) }
 {
-    put_line(page, round_line(round, replay.opening().core))?;
+    put_line(page, round_line(told.round, replay.opening().core))?;
     put_outcome(page, older, younger, replay.outcome())?;
-    put_line(page, turns_line(replay.is_cut(), replay.turns() as u64))
+    put_line(page, turns_line(replay.is_cut(), replay.turns() as u64))?;
+    put_why(page, older, younger, told)
+}
+
+/// Puts how the round ended, and why, as a sentence.
+#[tactic(auto, unfolding(crate::specs::Heading::why_text))]
+fn put_why<A: Allocator, B: Allocator, C: Allocator>(
+    page: &mut Vec<u8, A>,
+    older: &Warrior<B>,
+    younger: &Warrior<C>,
+    told: &Told,
+) -> Result<(), AllocError>
+    ensures { OnOk result (page.new.items ≡ page.old.items ++ why_text older.now younger.now told.now) }
+{
+    page.extend_from_slice(b"<p>")?;
+    put_sentence(page, Form::Page, older, younger, told)?;
+    page.extend_from_slice(b"</p>\n")
 }
 
 #[tactic(auto, unfolding(crate::specs::Heading::round_told))]

@@ -40,7 +40,11 @@ fn put_operand<A: Allocator>(
 }
 
 /// Puts the number nearest to 0 that is equal to this one modulo the size of the core; of two as near, the positive one.
-fn put_signed<A: Allocator>(page: &mut Vec<u8, A>, core: u16, number: u16) -> Result<(), AllocError>
+pub(crate) fn put_signed<A: Allocator>(
+    page: &mut Vec<u8, A>,
+    core: u16,
+    number: u16,
+) -> Result<(), AllocError>
     ensures { OnOk result (page.new.items ≡ page.old.items ++ number_text core number) }
 {
     if u32::from(core) < 2 * u32::from(number) {

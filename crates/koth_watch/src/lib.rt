@@ -4,7 +4,7 @@
 //! the order in which the data pass:
 //!
 //! - `instruction`: an instruction as the data of a page has it; `data`: the events of a round, as JSON;
-//! - `heading`: what a page says of its round in words;
+//! - `shown`: names, turns and instructions as a sentence has them; `sentence`: how the round ended, and why, in a sentence, also for a text; `heading`: what a page says of its round in words;
 //! - `parts`: what is the same on every page, with the style sheet; `script` and `drawing`: what plays the events in the browser, and what
 //!   draws them;
 //! - `page`: all of these.
@@ -22,5 +22,9 @@ mod instruction;
 mod page;
 mod parts;
 mod script;
+mod sentence;
+mod shown;
 
 pub use page::round_page;
+pub use sentence::{Told, put_sentence};
+pub use shown::Form;

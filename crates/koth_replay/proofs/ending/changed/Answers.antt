@@ -1,4 +1,4 @@
-use Rattle.std.proofs.Common.{◌≡◌, ◌∙◌, ap, sym, if◌then◌else◌, Some}
+use Rattle.std.proofs.Common.{◌∙◌, ap, if◌then◌else◌, Some}
 use Rattle.{war_types.specs.declared.instr.Modifier.Modifier, mars_core.specs.Effect.are_equal}
 use Rattle.koth_replay.proofs.ending.changed.Goals as goal
 

@@ -1,6 +1,6 @@
 -- Each turn leaves the cell as it is, or is the last so far that changed it.
-use Rattle.std.proofs.Common.{◌≡◌, ◌+◌, ◌-◌, ◌≤◌, false, ◌∙◌, refl, sym, ap, subst, arith}
-use Rattle.{mars_core.specs.Round.{Round, is_over, after_turn, after_turns}, koth_match.proofs.Kept.after_turns-settings, koth_replay.specs.{Ending.IsChange, Story.round_before}}
+use Rattle.std.proofs.Common.{◌≡◌, ◌+◌, ◌-◌, ◌≤◌, false, ◌∙◌, refl, ap, subst, arith}
+use Rattle.{mars_core.specs.Round.{Round, is_over, after_turns}, koth_match.proofs.Kept.after_turns-settings, koth_replay.specs.{Ending.IsChange}}
 use Rattle.koth_replay.proofs.{Writers.{change-next, on-before, turn_more, untouched-first}, Drawing.side-next, Histories.no-turns-yet}
 use Rattle.koth_replay.proofs.ending.last_change.Goals as goal
 

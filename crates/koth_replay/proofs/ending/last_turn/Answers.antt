@@ -1,6 +1,6 @@
 -- Each turn is the last so far; a round that is over stays as it is.
-use Rattle.std.proofs.Common.{◌≡◌, ◌+◌, ◌*◌, true, false, ◌∙◌, refl, sym, ap, arith}
-use Rattle.{mars_core.specs.Round.{Round, is_over, after_turn, after_turns}, koth_match.proofs.Kept.after_turns-settings, koth_replay.specs.Ending.IsFront}
+use Rattle.std.proofs.Common.{◌≡◌, ◌+◌, ◌*◌, true, false, ◌∙◌, refl, ap, arith}
+use Rattle.{mars_core.specs.Round.{Round, is_over, after_turns}, koth_match.proofs.Kept.after_turns-settings, koth_replay.specs.Ending.IsFront}
 use Rattle.koth_replay.proofs.{Drawing.side-next, Endings.{after_turn-used, ends-there, stays-over}, Falls.{made-next, made-there}, Histories.{no-turns-yet, one_more}}
 use Rattle.koth_replay.proofs.ending.last_turn.Goals as goal
 

@@ -1,6 +1,6 @@
 -- The round that was played is that of the match, from its beginning to its end.
-use Rattle.std.proofs.Common.{◌≡◌, ◌≤◌, true, false, ◌∙◌, refl, sym, ap, subst, MatchOption, Option}
-use Rattle.{mars_core.specs.Round.{Round, is_over, IsRound}, koth_replay.specs.{declared.ending.Made.Made, Replay.begun, Ending.IsMade, Story.{end_of, round_before}}}
+use Rattle.std.proofs.Common.{◌≡◌, ◌∙◌, sym, ap, subst, MatchOption}
+use Rattle.{mars_core.specs.Round.{Round, is_over, IsRound}, koth_replay.specs.{Replay.begun, Ending.IsMade, Story.{end_of, round_before}}}
 use Rattle.koth_replay.proofs.Falls.{made-of, story-lost, story-tied}
 use Rattle.koth_replay.proofs.ending.story_of.Goals as goal
 

@@ -1,5 +1,5 @@
 -- The last change is that of the round as it begins.
-use Rattle.std.proofs.Common.{◌≡◌, false, ◌∙◌, sym, ap, subst}
+use Rattle.std.proofs.Common.{◌∙◌, sym, ap, subst}
 use Rattle.{mars_core.specs.Round.{Round, is_over}, koth_replay.specs.{Ending.{writer_of, IsChange}, Story.round_before}}
 use Rattle.{std.proofs.Common.length, koth_replay.proofs.Writers.writer-is}
 use Rattle.koth_replay.proofs.ending.writer.Goals as goal

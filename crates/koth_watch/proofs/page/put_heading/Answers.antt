@@ -8,7 +8,7 @@ unfolding heading_text
 returns g c =
     let start = c.args.page.now.items in
     let named = sides_text c.args.older.now c.args.younger.now in
-    let ending = ending_text c.args.older.now c.args.younger.now c.args.round c.args.replay.now in
+    let ending = ending_text c.args.older.now c.args.younger.now c.args.told.now c.args.replay.now in
     let end = codes "</h1>\n" in
     let front = HEAD.now ++ named ++ STYLE.now ++ named ++ end in
     let five = c.extend_from_slice-3.new.self.items in

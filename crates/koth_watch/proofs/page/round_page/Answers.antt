@@ -11,14 +11,14 @@ returns-clause-markup g c =
     let older = c.args.older.now in
     let younger = c.args.younger.now in
     let r = c.args.replay.now in
-    IfOk-weaker c.page_of.result (λ page. page.items ≡ round_page older younger c.args.round r)
-    (λ page. markup_of page.items ≡ markup_of (round_page (unnamed older) (unnamed younger) c.args.round r))
-    (λ page is. ap markup_of is ∙ markup older younger c.args.round r) c.page_of.ensures
+    IfOk-weaker c.page_of.result (λ page. page.items ≡ round_page older younger c.args.told.now r)
+    (λ page. markup_of page.items ≡ markup_of (round_page (unnamed older) (unnamed younger) c.args.told.now r))
+    (λ page is. ap markup_of is ∙ markup older younger c.args.told.now r) c.page_of.ensures
 
 pub returns-clause-ascii : goal.returns-clause-ascii
 returns-clause-ascii g c =
     let older = c.args.older.now in
     let younger = c.args.younger.now in
     let r = c.args.replay.now in
-    IfOk-weaker c.page_of.result (λ page. page.items ≡ round_page older younger c.args.round r) (λ page. list_all is_page_byte page.items ≡ true)
-    (λ page is. ap (list_all is_page_byte) is ∙ ascii older younger c.args.round r) c.page_of.ensures
+    IfOk-weaker c.page_of.result (λ page. page.items ≡ round_page older younger c.args.told.now r) (λ page. list_all is_page_byte page.items ≡ true)
+    (λ page is. ap (list_all is_page_byte) is ∙ ascii older younger c.args.told.now r) c.page_of.ensures
