@@ -29,6 +29,8 @@ pub enum Reason {
     LongName,
     /// The name of the file is no text.
     NoText,
+    /// The folder has no source of a warrior.
+    NoSources,
     /// The disk is full.
     Full,
     /// The file would be too large, or is too short.
@@ -98,6 +100,7 @@ impl Reason {
             Reason::Circle => "its links go in a circle",
             Reason::LongName => "the name is too long",
             Reason::NoText => "its name is not UTF-8",
+            Reason::NoSources => "no file in it ends with .red",
             Reason::Full => "the disk is full",
             Reason::Size => "the file would be too large",
             Reason::NoFile => "it is no plain file",
