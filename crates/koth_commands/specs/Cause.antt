@@ -62,6 +62,7 @@ reason_text Reason.NotEmpty = codes "it isn't empty; koth create --overwrite mak
 reason_text Reason.NameInUse = codes "something has this name; take a new one"
 reason_text Reason.NoHill = codes "it holds no hill"
 reason_text Reason.OldHill = codes "a hill of the old format; koth migrate FILE NEW moves it to a new file"
+reason_text Reason.NewHill = codes "it is a hill of the new format already"
 reason_text Reason.Header = codes "one of its headers can't be read, so its last submission may be missing; compare it with a copy"
 reason_text Reason.Damaged = codes "a warrior in it can't be read; go back to a copy"
 reason_text Reason.Unreadable = codes "it can't be read; go back to a copy"

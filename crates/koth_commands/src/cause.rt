@@ -71,6 +71,8 @@ pub enum Reason {
     NoHill,
     /// The file holds a hill of the old format.
     OldHill,
+    /// The file holds a hill of the new format, where one of the old format is wanted.
+    NewHill,
     /// One of the headers in the file can't be read.
     Header,
     /// A warrior in the file can't be read.
@@ -134,6 +136,7 @@ impl Reason {
             Reason::OldHill => {
                 "a hill of the old format; koth migrate FILE NEW moves it to a new file"
             }
+            Reason::NewHill => "it is a hill of the new format already",
             Reason::Header => {
                 "one of its headers can't be read, so its last submission may be missing; compare it with a copy"
             }
