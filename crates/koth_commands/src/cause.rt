@@ -29,6 +29,8 @@ pub enum Reason {
     LongName,
     /// The name of the file is no text.
     NoText,
+    /// The folder has no source of a warrior.
+    NoSources,
     /// The disk is full.
     Full,
     /// The file would be too large, or is too short.
@@ -69,6 +71,8 @@ pub enum Reason {
     NoHill,
     /// The file holds a hill of the old format.
     OldHill,
+    /// The file holds a hill of the new format, where one of the old format is wanted.
+    NewHill,
     /// One of the headers in the file can't be read.
     Header,
     /// A warrior in the file can't be read.
@@ -98,6 +102,7 @@ impl Reason {
             Reason::Circle => "its links go in a circle",
             Reason::LongName => "the name is too long",
             Reason::NoText => "its name is not UTF-8",
+            Reason::NoSources => "no file in it ends with .red",
             Reason::Full => "the disk is full",
             Reason::Size => "the file would be too large",
             Reason::NoFile => "it is no plain file",
@@ -131,6 +136,7 @@ impl Reason {
             Reason::OldHill => {
                 "a hill of the old format; koth migrate FILE NEW moves it to a new file"
             }
+            Reason::NewHill => "it is a hill of the new format already",
             Reason::Header => {
                 "one of its headers can't be read, so its last submission may be missing; compare it with a copy"
             }

@@ -3,13 +3,13 @@
 //! It stands on the match and on the page of a round, and knows no store, device, session or socket. The modules, in
 //! the order in which the data pass:
 //!
-//! - `opponents`: the sources that the words for opponents stand for, also those in folders, and `paths` of these; `pair`:
+//! - `opponents`: the sources that the words for opponents stand for, also those in a `folder`, and `paths` of these; `pair`:
 //!   the warriors that sources assemble to;
 //! - `contest`: the counts and points of one warrior against another, in one role or in both; `rounds`: how each round of
 //!   a match went;
 //! - `lines`: the lines of contests, as text or as `koth_json` has them; `meeting`: one warrior against others, one after
 //!   the other;
-//! - `fight`, `replay`: a command each.
+//! - `fight`, `replay`: a command each, and `page_file`: the file of a page.
 //!
 //! Each says what is written and how the program ends, as a function of the settings and of what was read (`EndsFight`,
 //! `EndsReplay`). Of many opponents that is a line for each, in their order and none left out, with the counts of its
@@ -19,9 +19,11 @@
 
 mod contest;
 pub mod fight;
+mod folder;
 mod lines;
 mod meeting;
 mod opponents;
+mod page_file;
 mod pair;
 mod paths;
 pub mod replay;

@@ -3,19 +3,17 @@
 ghost use Rattle.std.specs.Prelude.{◌≡◌, ◌++◌, ◌∷◌, [], OnOk, IfOk, MatchResult};
 ghost use Rattle.{koth_commands.specs.{Pair.IsWarriorOf, Streams.source_name}, koth_contests.specs.{Opponents.{names_of, AreFiles, PutsFiles, PutsIn}, Pair.IsNoneOf}};
 
+use crate::folder::{names_in, sources_among};
 use crate::pair::{NoWarrior, warrior_from};
 use crate::paths::{path_in, shown_bytes};
 use koth_commands::trouble::Trouble;
-use koth_commands::{Reason, fill, reason_of, source_name};
+use koth_commands::{Reason, source_name};
 use koth_words::Source;
 use std::alloc::{AllocError, Allocator};
 use std::io::Read;
 use std::rt::Files;
 use std::str;
 use war_types::{Settings, Warrior};
-
-/// Bytes that are read of the names in a folder, each with a zero at its end. A folder whose names fill them isn't taken.
-const NAMES_LIMIT: usize = 1_048_576;
 
 /// An opponent, by what messages call its source.
 #[derive(Drop)]
@@ -80,9 +78,24 @@ fn is_special<R: Files>(rt: &R, path: &str) -> bool {
     }
 }
 
-/// The opponents that words stand for, in their order. A folder stands for the files in it whose names end with `.red`
-/// and don't begin with a point, in the order of the bytes of their names. The error is lack of memory.
+/// The opponents that words stand for, in their order. A folder stands for the files in it whose names end with `.red` or
+/// `.RED` and don't begin with a point, in the order of the bytes of their names. If no folder has such a file, each stands
+/// for itself, as an opponent without a warrior. The error is lack of memory.
 pub fn opponents_of<R: Files, A: Allocator + Copy>(
+    rt: &R,
+    alloc: A,
+    words: &[Source<'_>],
+) -> Result<Vec<Opponent<A>, A>, AllocError>
+    ensures { IfOk result (λ opponents. AreFiles words.now (names_of opponents.items)) }
+{
+    match opponents_found(rt, alloc, words) {
+        Ok(found) if found.len() == 0 => opponents_missed(alloc, words),
+        found => found,
+    }
+}
+
+/// The opponents that words stand for, where a folder may have none.
+fn opponents_found<R: Files, A: Allocator + Copy>(
     rt: &R,
     alloc: A,
     words: &[Source<'_>],
@@ -94,6 +107,33 @@ pub fn opponents_of<R: Files, A: Allocator + Copy>(
         put_word(rt, alloc, &mut opponents, *word)?;
     }
     Ok(opponents)
+}
+
+/// The folders that words name, which have no source.
+fn opponents_missed<A: Allocator + Copy>(
+    alloc: A,
+    words: &[Source<'_>],
+) -> Result<Vec<Opponent<A>, A>, AllocError>
+    ensures { IfOk result (λ opponents. AreFiles words.now (names_of opponents.items)) }
+{
+    let mut opponents = Vec::new(alloc);
+    for word in words {
+        put_missed(alloc, &mut opponents, *word)?;
+    }
+    Ok(opponents)
+}
+
+/// Puts the folder that a word names.
+fn put_missed<A: Allocator + Copy>(
+    alloc: A,
+    opponents: &mut Vec<Opponent<A>, A>,
+    word: Source<'_>,
+) -> Result<(), AllocError>
+    ensures { OnOk result (PutsFiles (source_name word.entry)
+        (names_of opponents.old.items) (names_of opponents.new.items)) }
+{
+    let name = source_name(word);
+    put_alone(alloc, opponents, name, Place::Nowhere(Reason::NoSources))
 }
 
 /// Puts the opponents that a word stands for.
@@ -162,46 +202,6 @@ fn put_folder<R: Files, A: Allocator + Copy>(
     }
 }
 
-/// The names in a folder, each with a zero after it.
-fn names_in<R: Files, A: Allocator + Copy>(
-    rt: &R,
-    alloc: A,
-    folder: &str,
-) -> Result<Vec<u8, A>, Reason> {
-    // A slash at the end follows a link to a folder.
-    match path_in(alloc, folder, "") {
-        Ok(path) => names_at(rt, alloc, path.as_str()),
-        Err(AllocError) => Err(Reason::Memory),
-    }
-}
-
-/// The names in the folder of this path, each with a zero after it.
-fn names_at<R: Files, A: Allocator>(rt: &R, alloc: A, path: &str) -> Result<Vec<u8, A>, Reason> {
-    let Ok(mut names) = Vec::from_elem(alloc, 0, NAMES_LIMIT) else {
-        return Err(Reason::Memory);
-    };
-    match read_names(rt, path, names.as_mut_slice()) {
-        Ok(count) => {
-            names.truncate(count);
-            Ok(names)
-        }
-        Err(reason) => Err(reason),
-    }
-}
-
-/// Reads the names in the folder of this path. How many bytes they have is the answer, which is less than there is room for.
-fn read_names<R: Files>(rt: &R, path: &str, names: &mut [u8]) -> Result<usize, Reason> {
-    let mut open = match rt.open_dir(path) {
-        Ok(open) => open,
-        Err(error) => return Err(reason_of(error.kind())),
-    };
-    match fill(&mut open, names) {
-        Ok(count) if count < NAMES_LIMIT => Ok(count),
-        Ok(_) => Err(Reason::Size),
-        Err(fault) => Err(fault.reason),
-    }
-}
-
 /// Puts the sources among these names in a folder, in the order of their bytes.
 fn put_sources<A: Allocator + Copy>(
     alloc: A,
@@ -214,20 +214,6 @@ fn put_sources<A: Allocator + Copy>(
     let mut found = sources_among(alloc, names)?;
     found.sort()?;
     put_found(alloc, opponents, folder, found.as_slice())
-}
-
-/// The names that end with `.red` and don't begin with a point.
-fn sources_among<'n, A: Allocator + Copy>(
-    alloc: A,
-    names: &'n [u8],
-) -> Result<Vec<&'n [u8], A>, AllocError> {
-    let mut found = Vec::new(alloc);
-    for name in names.split(|byte| *byte == 0) {
-        if name.ends_with(b".red") && !name.starts_with(b".") {
-            found.push(name)?;
-        }
-    }
-    Ok(found)
 }
 
 /// Puts the files of these names in a folder.

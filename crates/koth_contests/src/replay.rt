@@ -4,16 +4,16 @@ ghost use Rattle.std.specs.Prelude.{◌≡◌, ◌+◌, ◌-◌, ◌<◌, true, 
 ghost use Rattle.{war_types.specs.{Settings.settings_of, Warrior.Fits}, koth_commands.specs.{Streams.streams, Told.TellsWord, Trouble.{IsReadFault, settings_word}}};
 ghost use Rattle.koth_contests.specs.{Pair.{ArePairOf, IsAnswer}, Replay.{has_round, may_have, told_of, with_page, EndsReplay, EndsReplayUnder, HasNone, IsFirstNumber, IsNumber, IsPage, IsRoundText, IsWatched}};
 
+use crate::page_file::write_page;
 use crate::pair::{Pair, answer_none, pair_from};
 use crate::rounds::first_round;
 use koth_commands::trouble::Trouble;
-use koth_commands::{Answer, Status, deliver, reason_of, refuse_settings};
+use koth_commands::{Answer, Status, deliver, refuse_settings};
 use koth_replay::{Story, story_of};
 use koth_watch::{Told, round_page};
 use koth_words::{Round, View, Watched};
 use mars_core::{Arena, Outcome};
 use std::alloc::{AllocError, Allocator};
-use std::fs;
 use std::io::{Read, Write};
 use std::rt::Files;
 use war_types::{RawSettings, Settings, SettingsFault, Warrior};
@@ -127,7 +127,7 @@ fn answer_pair<'w, R: Files, A: Allocator + Copy>(
         IsReadFault }
 {
     match answer_round(alloc, settings, pair, watched.round) {
-        Ok(mut answer) => match put_page(rt, watched.page, &mut answer) {
+        Ok(mut answer) => match put_page(rt, alloc, watched.page, &mut answer) {
             Ok(()) => Ok(answer),
             Err(trouble) => Err(trouble),
         },
@@ -225,8 +225,9 @@ fn sentence<A: Allocator + Copy>(
 
 /// Writes the page of an answer to the file that is named, in place of the output, if a file is named and there is a
 /// page.
-fn put_page<'w, R: Files, A: Allocator>(
+fn put_page<'w, R: Files, A: Allocator + Copy>(
     rt: &R,
+    alloc: A,
     page: Option<&'w str>,
     answer: &mut Answer<A>,
 ) -> Result<(), Trouble<'w>>
@@ -235,8 +236,8 @@ fn put_page<'w, R: Files, A: Allocator>(
 {
     match page {
         Some(path) if matches!(answer.status, Status::Done) => {
-            if let Err(error) = fs::write(rt, path, answer.text.as_slice()) {
-                return Err(Trouble::file(path, reason_of(error.kind())));
+            if let Err(reason) = write_page(rt, alloc, path, answer.text.as_slice()) {
+                return Err(Trouble::file(path, reason));
             }
             answer.text.clear();
             Ok(())

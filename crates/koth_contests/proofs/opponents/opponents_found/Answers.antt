@@ -1,6 +1,6 @@
 -- One word more.
 use Rattle.koth_contests.proofs.Found.{one_word}
-use Rattle.koth_contests.proofs.opponents.opponents_of.Goals as goal
+use Rattle.koth_contests.proofs.opponents.opponents_found.Goals as goal
 
 pub loop-word-preserved : goal.loop-word-preserved
 loop-word-preserved g c =
