@@ -15,9 +15,9 @@ fn main(rt: HostRuntime) -> ExitCode {
     status
 }
 
-/// Opens the root folder on each of the descriptors 0 to 2 that is closed, so that no file that is opened later gets one of these numbers.
-/// Otherwise an answer could be written over a hill that has the number of standard output. Nothing can be read from the folder or written
-/// to it, so a closed stream is one that fails.
+/// Opens the root folder on each of the descriptors 0 to 2 that is closed, so that no file that is opened later gets
+/// one of these numbers. Otherwise an answer could be written over a hill that has the number of standard output.
+/// Nothing can be read from the folder or written to it, so a closed stream is one that fails.
 fn held_places<R: Files>(rt: &R) -> [io::Result<R::File>; 3] {
     [fs::open(rt, "/"), fs::open(rt, "/"), fs::open(rt, "/")]
 }
@@ -48,8 +48,8 @@ fn usual_view(rt: &HostRuntime) -> View {
     }
 }
 
-/// The arguments of the command line, with the program's name first. `OutOfMemory` if there is no memory for them, and else one of them is
-/// not UTF-8.
+/// The arguments of the command line, with the program's name first. `OutOfMemory` if there is no memory for them, and
+/// else one of them is not UTF-8.
 fn words_given(rt: &(impl Env + AllocGlobal)) -> Result<Vec<String>, ErrorKind> {
     let given = match env::args(rt) {
         Ok(given) => given,

@@ -36,13 +36,14 @@ pub record AnswerParts : Type 0 where
 abbrev pub answer_parts : Status → List ℕ → List ℕ → AnswerParts
 answer_parts status text note = record { status = status; text = text; note = note }
 
--- the text was written whole and then the note, or a part of it. Or the output failed: a part of the text was written, and that is told
+-- the text was written whole and then the note, or a part of it. Or the output failed: a part of the text was written,
+-- and that is told
 abbrev pub DeliversText : AnswerParts → Status → Option (List ℕ) → Option (List ℕ) → Option (List ℕ) → Option (List ℕ) → Type 0
 DeliversText answer status o p e f = ((status ≡ answer.status) × Appends o p answer.text × WritesPart e f answer.note)
     ⊎ ((status ≡ Status.StreamFault) × WritesPart o p answer.text × TellsWord (fault_word Fault.Stream) e f)
 
--- what a command answers was written, or that there is no answer was told and nothing was written on the output, by what the output and
--- then standard error hold before and after
+-- what a command answers was written, or that there is no answer was told and nothing was written on the output, by
+-- what the output and then standard error hold before and after
 abbrev pub Delivers : Result AnswerParts Trouble → Status → Option (List ℕ) → Option (List ℕ) → Option (List ℕ) → Option (List ℕ) → Type 0
 Delivers (Ok answer) status o p e f = DeliversText answer status o p e f
 Delivers (Err trouble) status o p e f = Keeps o p × Tells trouble status e f
@@ -52,7 +53,8 @@ abbrev pub EndsAs : (Option (List ℕ) → Option (List ℕ) → Result AnswerPa
 EndsAs IsDone status before after =
     (done : Result AnswerParts Trouble) × IsDone before.input after.input done × Delivers done status before.output after.output before.errors after.errors
 
--- what is done under the settings that are given, by what the input has left before and after. Or a setting is refused and nothing is read
+-- what is done under the settings that are given, by what the input has left before and after. Or a setting is refused
+-- and nothing is read
 abbrev pub IsGiven : (RawSettings → Option (List ℕ) → Option (List ℕ) → Result AnswerParts Trouble → Type 0) → Result RawSettings SettingsFault
     → Option (List ℕ) → Option (List ℕ) → Result AnswerParts Trouble → Type 0
 IsGiven IsDone (Ok s) i j done = IsDone s i j done

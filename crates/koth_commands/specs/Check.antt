@@ -18,7 +18,8 @@ pub record IsChecked (s : RawSettings) (how : Manner) (at : Place) (before after
 abbrev pub IsFaultAt : Place → Option (List ℕ) → Option (List ℕ) → Trouble → Type 0
 IsFaultAt at before after trouble = IsReadFault trouble × From (at_input at) TakesSome before after
 
--- whether no further source is checked: after a lack of memory, and if the output failed at the report of a source that was read
+-- whether no further source is checked: after a lack of memory, and if the output failed at the report of a source that
+-- was read
 abbrev pub is_over : Bool → Status → Bool
 is_over is_read Status.StreamFault = is_read
 is_over is_read Status.NoMemory = true
@@ -31,15 +32,16 @@ abbrev pub is_unread : Option (List ℕ) → Bool
 is_unread None = true
 is_unread (Some source) = false
 
--- one of them: its place, its text if that could be read, and what was written of it on the output and on standard error
+-- one of them: its place, its text if that could be read, and what was written of it on the output and on standard
+-- error
 pub record Part : Type 0 where
   pub at : Place
   pub source : Option (List ℕ)
   pub text : List ℕ
   pub told : List ℕ
 
--- it was taken: its report, and the note or as much of that as standard error took. Or it could not be read: the word of a failed stream, and what
--- follows that
+-- it was taken: its report, and the note or as much of that as standard error took. Or it could not be read: the word
+-- of a failed stream, and what follows that
 abbrev pub IsPartBy : RawSettings → Manner → Place → Option (List ℕ) → List ℕ → List ℕ → Option (List ℕ) → Option (List ℕ) → Type 0
 IsPartBy s how at (Some source) text told before after = From (at_input at) (λ old new. Takes old new source) before after
     × IsReport s how (name_at at) source text × ((note : List ℕ) × IsNoteOf (name_at at) source note × Begins told note)

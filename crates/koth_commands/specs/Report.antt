@@ -70,7 +70,8 @@ has_any (x ∷ xs) = true
 abbrev pub warnings_if : Bool → List ℕ → List Noted
 warnings_if asked source = if asked then warnings_of source else []
 
--- what is written of a source on the output: its faults, none if it assembles, and else all from the one that the assembler answers on; then its warnings
+-- what is written of a source on the output: its faults, none if it assembles, and else all from the one that the
+-- assembler answers on; then its warnings
 pub record IsReport (s : RawSettings) (how : Manner) (name source text : List ℕ) : Type 0 where
   pub faults : List AsmFault
   pub all : TellsAll s source faults (assembly s source)

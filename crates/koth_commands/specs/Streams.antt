@@ -36,7 +36,8 @@ abbrev pub source_name : Source → List ℕ
 source_name (Source.Input name) = name.now
 source_name (Source.File path) = path.now
 
--- what is done to a reader, by what that has left before and after, is done to the input, or else to a file, of which no bytes are known, and the input stays
+-- what is done to a reader, by what that has left before and after, is done to the input, or else to a file, of which
+-- no bytes are known, and the input stays
 abbrev pub From : Bool → (Option (List ℕ) → Option (List ℕ) → Type 0) → Option (List ℕ) → Option (List ℕ) → Type 0
 From true Reads old new = Reads old new
 From false Reads old new = Reads None None × Keeps old new

@@ -13,7 +13,8 @@ apart_text Line = codes "\n"
 apart_text Blank = codes " "
 apart_text Colon = codes ": "
 
--- a word was written, then a line feed, a blank or a colon, and then a text; or a part of these if standard error failed
+-- a word was written, then a line feed, a blank or a colon, and then a text; or a part of these if standard error
+-- failed
 pub record TellsWord (word : List ℕ) (old new : Option (List ℕ)) : Type 0 where
   pub apart : Apart
   pub text : List ℕ
@@ -23,7 +24,8 @@ pub record TellsWord (word : List ℕ) (old new : Option (List ℕ)) : Type 0 wh
 abbrev pub TellsAlone : List ℕ → Option (List ℕ) → Option (List ℕ) → Type 0
 TellsAlone word old new = WritesPart old new (word ++ codes "\n")
 
--- a word was written, followed by a blank and what failed and why if that is known; alone if it isn't, or if memory ran out
+-- a word was written, followed by a blank and what failed and why if that is known; alone if it isn't, or if memory ran
+-- out
 abbrev pub TellsCause : List ℕ → Option Cause → Option (List ℕ) → Option (List ℕ) → Type 0
 TellsCause word None old new = TellsAlone word old new
 TellsCause word (Some cause) old new = TellsAlone word old new ⊎ WritesPart old new (word ++ (codes " " ++ cause_told cause))

@@ -46,7 +46,8 @@ about_told (About.Cause cause) = Some (cause_told cause)
 about_told (About.Given given) = None
 about_told (About.Round rounds round) = None
 
--- the word was written with what it is about: alone, with what failed and why if memory sufficed for that, or with the range of a setting
+-- the word was written with what it is about: alone, with what failed and why if memory sufficed for that, or with the
+-- range of a setting
 abbrev pub TellsAbout : List ℕ → About → Option (List ℕ) → Option (List ℕ) → Type 0
 TellsAbout word About.Nothing old new = TellsAlone word old new
 TellsAbout word (About.Cause cause) old new = TellsCause word (Some cause) old new

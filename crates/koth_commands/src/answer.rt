@@ -54,8 +54,8 @@ impl<A: Allocator> Answer<A> {
     }
 }
 
-/// Writes what a command answers, or reports why it was not carried out. This alone knows the streams of a command. If nobody reads the
-/// output, that is not reported unless what was done `lasts`.
+/// Writes what a command answers, or reports why it was not carried out. This alone knows the streams of a command. If
+/// no one reads the output, that is not reported unless what was done `lasts`.
 pub fn deliver<A: Allocator, O: Write, E: Write>(
     alloc: A,
     done: Result<Answer<A>, Trouble<'_>>,
@@ -92,7 +92,7 @@ fn write_parts<A: Allocator, O: Write, E: Write>(
     }
 }
 
-/// Reports that the output failed. If nobody reads it, that is not reported unless what was done `lasts`.
+/// Reports that the output failed. If no one reads it, that is not reported unless what was done `lasts`.
 fn tell_lost<A: Allocator, E: Write>(
     alloc: A,
     reason: Reason,
@@ -128,8 +128,8 @@ pub struct RefusedSource<'s> {
     pub fault: AsmFault,
 }
 
-/// The answer to a source that is refused: the line of its refusal, and for people where in the source it is, and why. In the view `Json` it
-/// is one line of JSON. The trouble is that memory ran out, here or for the assembly.
+/// The answer to a source that is refused: the line of its refusal, and for people where in the source it is, and why.
+/// In the view `Json` it is one line of JSON. The trouble is that memory ran out, here or for the assembly.
 pub fn refusal<'t, A: Allocator + Copy>(
     alloc: A,
     settings: &Settings,

@@ -16,8 +16,8 @@ use std::io::{Read, Write};
 use std::rt::Files;
 use war_types::{RawSettings, Settings};
 
-/// Assembles the source in a file or on standard input, under the settings that are given, and writes its load text or its refusal.
-/// Settings that are out of their ranges are refused before anything is read.
+/// Assembles the source in a file or on standard input, under the settings that are given, and writes its load text or
+/// its refusal. Settings that are out of their ranges are refused before anything is read.
 pub fn asm<R: Files, A: Allocator + Copy, I: Read, O: Write, E: Write>(
     rt: &R,
     alloc: A,
@@ -42,7 +42,8 @@ fn perform_asm<'w, R: Files, A: Allocator + Copy, I: Read>(
     source: Source<'w>,
     input: &mut I,
 ) -> Result<Answer<A>, Trouble<'w>>
-    ensures { IsDoneFrom (is_input source.entry) (settings_of given) (I.remaining input.old) (I.remaining input.new) result }
+    ensures { IsDoneFrom (is_input source.entry) (settings_of given) (I.remaining input.old)
+        (I.remaining input.new) result }
 {
     let settings = match Settings::new(given) {
         Ok(settings) => settings,
@@ -80,7 +81,8 @@ fn assembled<'t, A: Allocator + Copy>(
     path: &str,
     text: &[u8],
 ) -> Result<Answer<A>, Trouble<'t>>
-    ensures { MatchResult result (IsAssembled settings.now (assembly settings.now text.now)) (λ trouble. trouble ≡ no_memory) }
+    ensures { MatchResult result (IsAssembled settings.now (assembly settings.now text.now))
+        (λ trouble. trouble ≡ no_memory) }
 {
     let (warrior, told) = assemble_told(alloc, text, settings);
     match warrior {

@@ -1,4 +1,4 @@
-//! What failed, and why, as people are told it.
+//! What failed, and why, as people read it.
 
 ghost use Rattle.std.specs.Prelude.{◌≡◌, ◌++◌, codes, decimal, IfOk, OnOk};
 ghost use Rattle.koth_commands.specs.{Cause.{cause_told, error_reason, reason_text, reason_told, subject_name}, Name.shown_name};
@@ -55,7 +55,7 @@ pub enum Reason {
     Elsewhere,
     /// The system doesn't listen at the address, as at a link-local one without its interface.
     NoListening,
-    /// Nobody reads what is written.
+    /// No one reads what is written.
     ReaderGone,
     /// No more can be written.
     NoRoom,
@@ -248,7 +248,8 @@ fn put_warrior<A: Allocator>(
     path: &str,
     entry: u64,
 ) -> Result<(), AllocError>
-    ensures { OnOk result (text.new.items ≡ text.old.items ++ (shown_name path.now ++ (codes ", warrior " ++ decimal entry))) }
+    ensures { OnOk result (text.new.items ≡ text.old.items
+        ++ (shown_name path.now ++ (codes ", warrior " ++ decimal entry))) }
 {
     put_name(text, path)?;
     text.extend_from_slice(b", warrior ")?;

@@ -16,10 +16,11 @@ use std::io::{Read, Write};
 use std::rt::Files;
 use war_types::{RawSettings, Settings};
 
-/// Writes every refusal of sources, under the settings that are given, and every warning if they are asked for. Each is written for people,
-/// with the line's text and a caret under what is meant, or as a line of JSON. Standard error names the sources whose assembly takes more
-/// steps than a service allows by default, and those that can't be read. Settings that are out of their ranges are refused before anything is
-/// read. If the output fails or memory runs out, no further source is checked.
+/// Writes every refusal of sources, under the settings that are given, and every warning if they are asked for. Each is
+/// written for people, with the line's text and a caret under what is meant, or as a line of JSON. Standard error names
+/// the sources whose assembly takes more steps than a service allows by default, and those that can't be read. Settings
+/// that are out of their ranges are refused before anything is read. If the output fails or memory runs out, no further
+/// source is checked.
 pub fn check<R: Files, A: Allocator + Copy, I: Read, O: Write, E: Write>(
     rt: &R,
     alloc: A,
@@ -86,7 +87,8 @@ fn check_source<'w, R: Files, A: Allocator + Copy, I: Read>(
     input: &mut I,
 ) -> Result<Answer<A>, Trouble<'w>>
     ensures { MatchResult result
-        (IsChecked settings.now (manner_of checked.now) (place source.entry) (I.remaining input.old) (I.remaining input.new))
+        (IsChecked settings.now (manner_of checked.now) (place source.entry) (I.remaining input.old)
+        (I.remaining input.new))
         (IsFaultAt (place source.entry) (I.remaining input.old) (I.remaining input.new)) }
 {
     match source {
@@ -107,7 +109,8 @@ fn check_from<'w, A: Allocator + Copy, I: Read>(
     reader: &mut I,
 ) -> Result<Answer<A>, Trouble<'w>>
     ensures { MatchResult result
-        (IsChecked settings.now (manner_of checked.now) (Place.Input name.now) (I.remaining reader.old) (I.remaining reader.new))
+        (IsChecked settings.now (manner_of checked.now) (Place.Input name.now) (I.remaining reader.old)
+        (I.remaining reader.new))
         (IsFaultAt (Place.Input name.now) (I.remaining reader.old) (I.remaining reader.new)) }
 {
     let text = match text_from(alloc, name, reader) {

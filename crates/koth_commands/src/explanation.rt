@@ -9,8 +9,8 @@ use std::alloc::{AllocError, Allocator};
 use std::io::Write;
 use war_types::Settings;
 
-/// Writes why a source is refused: the line's number and text, a caret under the fault, and a sentence. Nothing is written if the source
-/// is not refused or memory runs out.
+/// Writes why a source is refused: the line's number and text, a caret under the fault, and a sentence. Nothing is
+/// written if the source is not refused or memory runs out.
 pub fn explain<A: Allocator + Copy, E: Write>(
     alloc: A,
     path: &str,
@@ -24,8 +24,8 @@ pub fn explain<A: Allocator + Copy, E: Write>(
     let _ = write_whole(errors, text.as_slice());
 }
 
-/// Where in a source its first refusal is, and why: the line's number and text, a caret under the fault, and a sentence. It is empty if the
-/// source is not refused or memory runs out.
+/// Where in a source its first refusal is, and why: the line's number and text, a caret under the fault, and a
+/// sentence. It is empty if the source is not refused or memory runs out.
 pub fn explanation_of<A: Allocator + Copy>(
     alloc: A,
     path: &str,

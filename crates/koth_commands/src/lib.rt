@@ -1,15 +1,19 @@
 //! The commands on sources alone, `asm` and `check`, and what all commands share: their answers, troubles and statuses.
 //!
-//! It stands on the assembler, and knows no match, store, device, session or socket. The modules, in the order in which the data pass:
+//! It uses the assembler, and knows no match, store, device, session or socket. The modules, in the order in which the
+//! data pass:
 //!
-//! - `stream` and `source`: an input that is read up to a limit, an output that is written whole, and the text of a source;
+//! - `stream` and `source`: an input that is read up to a limit, an output that is written whole, and the text of a
+//!   source;
 //! - `asm`, `check`: a command each; `report`: what `check` says of a source;
-//! - `answer`: what a command answers, and its delivery; `trouble`: why one was not carried out, and `settings` and `cause` what that was about;
-//! - `name`: the name of a file as messages have it; `telling`: a word on standard error; `status`: how the program ends.
+//! - `answer`: what a command answers, and its delivery; `trouble`: why one was not carried out, and `settings` and
+//!   `cause` what that was about;
+//! - `name`: the name of a file as messages have it; `telling`: a word on standard error; `status`: how the program
+//!   ends.
 //!
-//! A command performs what it is asked for, which gives an `Answer` or a `Trouble`, and `deliver` alone writes that. Each says what was done
-//! as a function of the settings and of what was read, and how it ends as the delivery of that (`EndsAsmFrom`, `EndsCheck`). Settings are
-//! checked before anything is read.
+//! A command performs what it is asked for, which gives an `Answer` or a `Trouble`, and `deliver` alone writes that.
+//! Each says what was done as a function of the settings and of what was read, and how it ends as the delivery of that
+//! (`EndsAsmFrom`, `EndsCheck`). Settings are checked before anything is read.
 #![tactic(auto)]
 
 mod answer;

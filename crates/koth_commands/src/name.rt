@@ -6,7 +6,8 @@ ghost use Rattle.koth_commands.specs.Name.{byte_shown, hex_digit, shown_characte
 use redcode_lines::is_acted_on;
 use std::alloc::{AllocError, Allocator};
 
-/// A name: each byte of a character that a terminal acts upon as `\x` and two digits, and any other character as it is. The error is lack of memory.
+/// A name: each byte of a character that a terminal acts upon as `\x` and two digits, and any other character as it is.
+/// The error is lack of memory.
 pub fn name_text<A: Allocator>(alloc: A, name: &str) -> Result<Vec<u8, A>, AllocError>
     ensures { IfOk result (λ text. text.items ≡ shown_name name.now) }
 {

@@ -26,7 +26,8 @@ pub(crate) fn report<'t, A: Allocator + Copy>(
     name: &str,
     source: &[u8],
 ) -> Result<Answer<A>, Trouble<'t>>
-    ensures { MatchResult result (IsAnswered settings.now (manner_of checked.now) name.now source.now) (λ trouble. trouble ≡ no_memory) }
+    ensures { MatchResult result (IsAnswered settings.now (manner_of checked.now) name.now source.now)
+        (λ trouble. trouble ≡ no_memory) }
 {
     let found = diagnose(alloc, source, settings)?;
     let warned = asked_warnings(alloc, source, checked.warnings)?;
@@ -48,7 +49,8 @@ fn asked_warnings<A: Allocator + Copy>(
     asked: bool,
 ) -> Result<Vec<Warning<A>, A>, AllocError>
     ensures told { IfOk result (λ all. map (λ w. (w.kind, w.line)) all.items ≡ warnings_if asked source.now) }
-    ensures placed { IfOk result (λ all. All (λ w. IsPlaceIn (line_text source.now w.line) w.column w.width) all.items) }
+    ensures placed { IfOk result (λ all. All
+        (λ w. IsPlaceIn (line_text source.now w.line) w.column w.width) all.items) }
 {
     if asked {
         warnings(alloc, source)
@@ -57,7 +59,8 @@ fn asked_warnings<A: Allocator + Copy>(
     }
 }
 
-/// Whether a source with these faults and these warnings is refused: it is if it has a fault, or a warning and these are denied.
+/// Whether a source with these faults and these warnings is refused: it is if it has a fault, or a warning and these
+/// are denied.
 fn is_refused<A: Allocator>(found: &[Diagnosis<A>], warned: &[Warning<A>], deny: bool) -> bool
     ensures { result ≡ (has_any found.now || (deny && has_any warned.now)) }
 {
@@ -85,11 +88,11 @@ pub(crate) trait Remark<A: Allocator> {
     /// Its column and its width.
     ghost place: { Self → ℕ × ℕ };
 
-    /// What people are told of it. The error is lack of memory.
+    /// What people read about it. The error is lack of memory.
     fn told(&self, alloc: A, name: &str, source: &[u8]) -> Result<Vec<u8, A>, AllocError>
         ensures { IfOk result (λ line. IsFoundLine Form.Text name.now (found self.now) (place self.now) line.items) };
 
-    /// What programs are told of it.
+    /// What programs read about it.
     fn finding<'f>(&'f self, source: &'f [u8]) -> Finding<'f>
         ensures { IsFound (found self.now) (place self.now) result };
 }
@@ -155,7 +158,8 @@ fn lines_of<A: Allocator + Copy, R: Remark<A>>(
     remarks: &[R],
 ) -> Result<Vec<u8, A>, AllocError>
     requires { All (λ r. IsPlaceIn (line_text source.now (R.found r).line) (R.place r).0 (R.place r).1) remarks.now }
-    ensures { IfOk result (λ text. AreLines (TellsFound form name.now source.now) (map R.found remarks.now) text.items) }
+    ensures { IfOk result (λ text. AreLines (TellsFound form name.now source.now)
+        (map R.found remarks.now) text.items) }
 {
     let mut text = Vec::new(alloc);
     for remark in remarks {
@@ -172,7 +176,8 @@ fn line_of<A: Allocator + Copy, R: Remark<A>>(
     source: &[u8],
     remark: &R,
 ) -> Result<Vec<u8, A>, AllocError>
-    requires { IsPlaceIn (line_text source.now (R.found remark.now).line) (R.place remark.now).0 (R.place remark.now).1 }
+    requires { IsPlaceIn (line_text source.now (R.found remark.now).line) (R.place remark.now).0
+        (R.place remark.now).1 }
     ensures { IfOk result (λ line. TellsFound form name.now source.now (R.found remark.now) line.items) }
 {
     match form {
@@ -194,7 +199,7 @@ fn json_line<A: Allocator>(
     Ok(line)
 }
 
-/// The copy of a block that is to blame, if the line stands in one.
+/// The copy of a block that is to blame, if the line is in one.
 pub(crate) fn copied<A: Allocator>(diagnosis: &Diagnosis<A>) -> Option<Copied<'_>> {
     match &diagnosis.copy {
         Some(copy) => Some(Copied {

@@ -1,4 +1,4 @@
-//! What is told of settings that are refused, and of a round that a match doesn't have.
+//! What is reported about settings that are refused, and of a round that a match doesn't have.
 
 ghost use Rattle.std.specs.Prelude.{◌≡◌};
 ghost use Rattle.koth_commands.specs.{Trouble.settings_word, Told.TellsWord};

@@ -43,7 +43,8 @@ pub fn text_from<'w, A: Allocator + Copy, I: Read>(
     input: &mut I,
 ) -> Result<Vec<u8, A>, Trouble<'w>>
     ensures taken { IfOk result (λ text. Takes (I.remaining input.old) (I.remaining input.new) text.items) }
-    ensures lost { IfErr result (λ trouble. IsReadFault trouble × TakesSome (I.remaining input.old) (I.remaining input.new)) }
+    ensures lost { IfErr result (λ trouble. IsReadFault trouble
+        × TakesSome (I.remaining input.old) (I.remaining input.new)) }
 {
     let Ok(mut buffer) = Vec::from_elem(alloc, 0, READ_LIMIT) else {
         return Err(Trouble::memory());

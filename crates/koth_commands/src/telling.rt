@@ -8,7 +8,7 @@ use crate::stream::{StreamFault, write_whole};
 use std::alloc::{AllocError, Allocator};
 use std::io::Write;
 
-/// What stands between a word and the text after it.
+/// What is between a word and the text after it.
 #[derive(Clone, Copy, PartialEq, Eq)]
 pub enum Apart {
     /// The word ends its line.
@@ -31,8 +31,8 @@ impl Apart {
     }
 }
 
-/// Writes a word, followed by what failed and why if that is known and there is memory for it. If standard error fails, a part of it is
-/// written.
+/// Writes a word, followed by what failed and why if that is known and there is memory for it. If standard error fails,
+/// a part of it is written.
 pub fn tell_word<A: Allocator, E: Write>(
     alloc: A,
     word: &str,
@@ -53,7 +53,8 @@ pub fn tell_word<A: Allocator, E: Write>(
 /// Writes a word and a text after it, or a part of them if standard error fails.
 pub fn tell_text<E: Write>(word: &str, apart: Apart, text: &[u8], errors: &mut E)
     ensures told { TellsWord word.now (E.contents errors.old) (E.contents errors.new) }
-    ensures part { WritesPart (E.contents errors.old) (E.contents errors.new) (word.now ++ (apart_text apart ++ text.now)) }
+    ensures part { WritesPart (E.contents errors.old) (E.contents errors.new)
+        (word.now ++ (apart_text apart ++ text.now)) }
 {
     let _ = write_told(word, apart, text, errors);
 }

@@ -60,7 +60,7 @@ impl Fault {
     }
 }
 
-/// What people are told beside the word of a fault.
+/// What people read besides the word of a fault.
 #[derive(Clone, Copy)]
 pub enum About<'t> {
     Nothing,
@@ -140,8 +140,8 @@ impl<'t> Trouble<'t> {
         }
     }
 
-    /// Writes the fault's word and after it what it was about, and says how the program ends. If that can't be written, the status alone
-    /// shows it.
+    /// Writes the fault's word and after it what it was about, and says how the program ends. If that can't be written,
+    /// the status alone shows it.
     pub fn tell<A: Allocator, E: Write>(self, alloc: A, errors: &mut E) -> Status
         ensures { Tells self.entry result (E.contents errors.old) (E.contents errors.new) }
     {

@@ -1,4 +1,5 @@
--- A contest of one warrior, which is called mine, against another: their match with mine as the older one, or both orders.
+-- A contest of one warrior, which is called mine, against another: their match with mine as the older one, or both
+-- orders.
 use Rattle.std.specs.Prelude.{ℕ, ◌+◌, Bool, true, false}
 use Rattle.{war_types.specs.{Warrior.WarriorParts, declared.settings.RawSettings.RawSettings}, koth_match.specs.Match.match_of}
 use Rattle.koth_text.specs.{declared.tally.Tally.Tally, Tally.{of_older, of_younger}}
@@ -21,7 +22,8 @@ most_rounds = 131070
 abbrev pub added : Tally → Tally → Tally
 added a b = tally (a.won + b.won) (a.lost + b.lost) (a.tied + b.tied)
 
--- the rounds of a contest from mine's side: of the match with mine as the older one, and if both orders are played, also of the other match
+-- the rounds of a contest from mine's side: of the match with mine as the older one, and if both orders are played,
+-- also of the other match
 abbrev pub contest_tally : RawSettings → Bool → WarriorParts → WarriorParts → Tally
 contest_tally s false mine other = of_older (match_of s mine other)
 contest_tally s true mine other = added (of_older (match_of s mine other)) (of_younger (match_of s other mine))

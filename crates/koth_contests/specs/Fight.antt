@@ -35,15 +35,16 @@ pub record IsFoughtOf (s : RawSettings) (first second : Source) (each : Bool) (v
   pub taken : TakesBoth s (is_input first) (is_input second) older younger i k
   pub tells : IsToldOf s each view (entrant (source_name first) older) (entrant (source_name second) younger) text
 
--- how `fight` of one warrior, mine, against many ends, by what the output and then standard error hold before and after: mine meets the opponents
--- that the words stand for, or there is no such warrior, or memory ran out
+-- how `fight` of one warrior, mine, against many ends, by what the output and then standard error hold before and
+-- after: mine meets the opponents that the words stand for, or there is no such warrior, or memory ran out
 abbrev pub EndsMany : RawSettings → Source → List Source → Terms → Status → Option (List ℕ) → Option (List ℕ) → Option (List ℕ) → Option (List ℕ) → Type 0
 EndsMany s first words terms status o p e f =
     ((files : List (List ℕ)) × AreFiles words files
     × ((mine : WarriorParts) × IsWarriorOf s mine × EndsMeetings s terms (entrant (source_name first) mine) files status o p e f))
     ⊎ EndsMatch s terms.view (λ text. ⊥) ⊥ status o p e f
 
--- whether the match with this opponent alone is told: its rounds are asked for, or there is no other opponent and no match in the other order
+-- whether the match with this opponent alone is told: its rounds are asked for, or there is no other opponent and no
+-- match in the other order
 abbrev pub IsAlone : Bool → Bool → List Source → Source → Type 0
 IsAlone both each words word = (each ≡ true) ⊎ ((words ≡ word ∷ []) × (both ≡ false))
 
@@ -51,7 +52,8 @@ IsAlone both each words word = (each ≡ true) ⊎ ((words ≡ word ∷ []) × (
 abbrev pub MayBeMany : Bool → List Source → Type 0
 MayBeMany each words = each ≡ true → words ≡ []
 
--- how `fight` ends under settings, in this view: with the match of two sources, which is told alone, or with the matches of one against many
+-- how `fight` ends under settings, in this view: with the match of two sources, which is told alone, or with the
+-- matches of one against many
 abbrev pub EndsFightUnder : RawSettings → Fighters → View → Status → Option (List ℕ) → Option (List ℕ) → Option (List ℕ) → Option (List ℕ) → Type 0
 EndsFightUnder s given view status o p e f =
     ((word : Source) × IsAlone given.both given.each given.opponents.items word × EndsMatch s view (IsFought s given.older word given.each view) ⊥ status o p e f)

@@ -5,7 +5,8 @@ use Rattle.{koth_words.specs.declared.requests.View.View, koth_commands.specs.{P
 use Rattle.koth_commands.specs.declared.{status.Status.Status, trouble.{Fault.Fault, Trouble.Trouble}}
 use Rattle.koth_contests.specs.{Contest.{added, contest_tally, no_rounds, tally}, Lines.{Entrant, contender, contest_line, entrant, heading, sum_line}, declared.meeting.Terms.Terms}
 
--- an opponent: what messages call its file, and the warrior that its source assembles to; no warrior if the file can't be read or the source is refused
+-- an opponent: what messages call its file, and the warrior that its source assembles to; no warrior if the file can't
+-- be read or the source is refused
 pub record Met : Type 0 where
   pub file : List ℕ
   pub warrior : Option WarriorParts
@@ -92,8 +93,8 @@ TellsAfter word e f = (mid : Option (List ℕ)) × WritesSome e mid × TellsWord
 abbrev pub WritesBegun : RawSettings → Terms → Entrant → List (List ℕ) → Option (List ℕ) → Option (List ℕ) → Type 0
 WritesBegun s terms mine files o p = (text : List ℕ) × IsBegun s terms mine files text × WritesPart o p text
 
--- how mine against these files ends, by what the output and then standard error hold before and after: all of the text is written, and why
--- opponents have no warrior; or a part of the text, since the output failed or memory ran out
+-- how mine against these files ends, by what the output and then standard error hold before and after: all of the text
+-- is written, and why opponents have no warrior; or a part of the text, since the output failed or memory ran out
 abbrev pub EndsMeetings : RawSettings → Terms → Entrant → List (List ℕ) → Status → Option (List ℕ) → Option (List ℕ) → Option (List ℕ) → Option (List ℕ) → Type 0
 EndsMeetings s terms mine files Status.Done o p e f = ((text : List ℕ) × IsContest s terms mine files true text × Appends o p text) × Notes terms.view e f
 EndsMeetings s terms mine files Status.Refused o p e f = ((text : List ℕ) × IsContest s terms mine files false text × Appends o p text) × WritesSome e f
@@ -101,8 +102,8 @@ EndsMeetings s terms mine files Status.WordFault o p e f = ⊥
 EndsMeetings s terms mine files Status.StreamFault o p e f = WritesBegun s terms mine files o p × TellsAfter (fault_word Fault.Stream) e f
 EndsMeetings s terms mine files Status.NoMemory o p e f = WritesBegun s terms mine files o p × TellsAfter (fault_word Fault.Memory) e f
 
--- how the meeting with one opponent ends: its line is written and its rounds are added; or it has no warrior, and standard error says why;
--- or a part of its line is written; or memory ran out
+-- how the meeting with one opponent ends: its line is written and its rounds are added; or it has no warrior, and
+-- standard error says why; or a part of its line is written; or memory ran out
 abbrev pub Meets : RawSettings → Terms → Entrant → List ℕ → Tally → Tally → Status → Option (List ℕ) → Option (List ℕ) → Option (List ℕ) → Option (List ℕ) → Type 0
 Meets s terms mine file sum new Status.Done o p e f = (other : WarriorParts) × IsWarriorOf s other
     × (new ≡ added sum (contest_tally s terms.both mine.warrior other)) × Appends o p (line_against s terms mine file (Some other)) × Keeps e f
@@ -123,7 +124,8 @@ abbrev pub IsLineAnswer : {A E : Type 0} → Result (Vec ℕ A) E → Result Ans
 IsLineAnswer (Ok line) answer = answer ≡ Ok (answer_parts Status.Done line.items [])
 IsLineAnswer (Err e) answer = answer ≡ Err no_memory
 
--- how the writing of a line ends: all of it is written and nothing is reported, or a part of it, or none of it for lack of memory
+-- how the writing of a line ends: all of it is written and nothing is reported, or a part of it, or none of it for lack
+-- of memory
 abbrev pub EndsLine : List ℕ → Status → Option (List ℕ) → Option (List ℕ) → Option (List ℕ) → Option (List ℕ) → Type 0
 EndsLine text Status.Done o p e f = Appends o p text × Keeps e f
 EndsLine text Status.StreamFault o p e f = WritesPart o p text × TellsWord (fault_word Fault.Stream) e f

@@ -60,9 +60,9 @@ abbrev pub AnswersPartly : RawSettings → View → (List ℕ → Type 0) → Op
 AnswersPartly s view IsTold old new =
     ((text : List ℕ) × IsTold text × WritesPart old new text) ⊎ ((text : List ℕ) × IsRefused s view text × WritesPart old new text)
 
--- how a command of a match ends, by what the output and then standard error hold before and after. The whole text is written and nothing
--- reported; or a source is refused, or there is nothing to write, and standard error says why; or a file or a stream failed and maybe a part
--- of the answer was written; or memory ran out
+-- how a command of a match ends, by what the output and then standard error hold before and after. The whole text is
+-- written and nothing reported; or a source is refused, or there is nothing to write, and standard error says why; or a
+-- file or a stream failed and maybe a part of the answer was written; or memory ran out
 abbrev pub EndsMatch : RawSettings → View → (List ℕ → Type 0) → Type 0 → Status → Option (List ℕ) → Option (List ℕ) → Option (List ℕ) → Option (List ℕ) → Type 0
 EndsMatch s view IsTold IsNothing Status.Done o p e f = (text : List ℕ) × IsTold text × Appends o p text × Keeps e f
 EndsMatch s view IsTold IsNothing Status.Refused o p e f =

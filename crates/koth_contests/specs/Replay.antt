@@ -52,8 +52,8 @@ IsFirstNumber s older younger wanted found = MatchOption found (IsFirst s older 
 abbrev pub told_of : RawSettings → ℕ → Story → Told
 told_of s place story = record { round = place; rounds = s.rounds; core = s.core; story = story }
 
--- the text is the page of that round of the match of these warriors: it has the events that draw the round after each turn, and says how
--- the round ended, at the end of all of its turns, and why
+-- the text is the page of that round of the match of these warriors: it has the events that draw the round after each
+-- turn, and says how the round ended, at the end of all of its turns, and why
 pub record IsRoundText (s : RawSettings) (older younger : WarriorParts) (round : ℕ) (text : List ℕ) : Type 0 where
   pub replay : ReplayParts
   pub story : Story
@@ -92,13 +92,14 @@ page_left named status text = text
 abbrev pub with_page : Bool → AnswerParts → AnswerParts
 with_page named a = answer_parts a.status (page_left named a.status a.text) a.note
 
--- how `replay` ends under settings, by what the output and then standard error hold before and after. It writes the page of that round and
--- reports nothing, or there is no match or no such round, or a stream failed and maybe a part of the answer was written
+-- how `replay` ends under settings, by what the output and then standard error hold before and after. It writes the
+-- page of that round and reports nothing, or there is no match or no such round, or a stream failed and maybe a part of
+-- the answer was written
 abbrev pub EndsReplayUnder : RawSettings → Round → Bool → Status → Option (List ℕ) → Option (List ℕ) → Option (List ℕ) → Option (List ℕ) → Type 0
 EndsReplayUnder s round named status o p e f = EndsMatch s View.Plain (IsPage s round named) (HasNone s round) status o p e f
 
--- how `replay` of this round ends: as under the settings that are given, with their refusal, also if their match doesn't have the round, or
--- out of memory
+-- how `replay` of this round ends: as under the settings that are given, with their refusal, also if their match
+-- doesn't have the round, or out of memory
 abbrev pub EndsReplay : Round → Bool → Result RawSettings SettingsFault → Status → Streams → Streams → Type 0
 EndsReplay round named settings status before after =
     EndsGiven (λ s end u v. EndsReplayUnder s round named end u.output v.output u.errors v.errors) (with_round round settings) status before after

@@ -41,8 +41,8 @@ abbrev pub ends_columns : Played → List ℕ
 ends_columns p = padded Alignment.Right 7 (side_name p.first)
     ++ (padded Alignment.Right 6 (outcome_name p.outcome) ++ (padded Alignment.Right 9 (decimal p.turns) ++ codes "\n"))
 
--- the line of a round for programs: its number, its seed, the position of the younger warrior, who moved first, who won, and how many turns were
--- made
+-- the line of a round for programs: its number, its seed, the position of the younger warrior, who moved first, who
+-- won, and how many turns were made
 abbrev pub round_told : Played → List ℕ
 round_told p = decimal p.number ++ (codes " " ++ (decimal p.seed ++ (codes " " ++ (decimal p.position ++ (codes " " ++ ends_told p)))))
 

@@ -69,8 +69,8 @@ fn fight_under<R: Files, A: Allocator + Copy, I: Read, O: Write, E: Write>(
     }
 }
 
-/// The opponent whose match alone is told, if there is such a one: with `each` the first opponent, else the only one, if
-/// it is no folder and isn't met in the other order too.
+/// The opponent whose match alone is told, if there is such a one: with `each` the first opponent, else the only one,
+/// if it is no folder and isn't met in the other order too.
 fn lone_opponent<'w, R: Files>(rt: &R, fighters: &Fighters<'w>) -> Option<Source<'w>>
     ensures { MatchOption result (MayBeMany fighters.now.each fighters.now.opponents.items)
         (IsAlone fighters.now.both fighters.now.each fighters.now.opponents.items) }

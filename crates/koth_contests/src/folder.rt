@@ -5,7 +5,8 @@ use koth_commands::{Reason, fill, reason_of};
 use std::alloc::{AllocError, Allocator};
 use std::rt::Files;
 
-/// Bytes that are read of the names in a folder, each with a zero at its end. A folder whose names fill them isn't taken.
+/// Bytes that are read of the names in a folder, each with a zero at its end. A folder whose names fill them isn't
+/// taken.
 const NAMES_LIMIT: usize = 1_048_576;
 
 /// The names in a folder, each with a zero after it.
@@ -35,7 +36,8 @@ fn names_at<R: Files, A: Allocator>(rt: &R, alloc: A, path: &str) -> Result<Vec<
     }
 }
 
-/// Reads the names in the folder of this path. How many bytes they have is the answer, which is less than there is room for.
+/// Reads the names in the folder of this path. How many bytes they have is the answer, which is less than there is room
+/// for.
 fn read_names<R: Files>(rt: &R, path: &str, names: &mut [u8]) -> Result<usize, Reason> {
     let mut open = match rt.open_dir(path) {
         Ok(open) => open,

@@ -1,14 +1,14 @@
 //! Matches of warriors that are on no hill, `fight` and `replay`: of two, of one against many, and round by round.
 //!
-//! It stands on the match and on the page of a round, and knows no store, device, session or socket. The modules, in
+//! It uses the match and the page of a round, and knows no store, device, session or socket. The modules, in
 //! the order in which the data pass:
 //!
-//! - `opponents`: the sources that the words for opponents stand for, also those in a `folder`, and `paths` of these; `pair`:
-//!   the warriors that sources assemble to;
-//! - `contest`: the counts and points of one warrior against another, in one role or in both; `rounds`: how each round of
-//!   a match went;
-//! - `lines`: the lines of contests, as text or as `koth_json` has them; `meeting`: one warrior against others, one after
-//!   the other;
+//! - `opponents`: the sources that the words for opponents stand for, also those in a `folder`, and `paths` of these;
+//!   `pair`: the warriors that sources assemble to;
+//! - `contest`: the counts and points of one warrior against another, in one role or in both; `rounds`: how each round
+//!   of a match went;
+//! - `lines`: the lines of contests, as text or as `koth_json` has them; `meeting`: one warrior against others, one
+//!   after the other;
 //! - `fight`, `replay`: a command each, and `page_file`: the file of a page.
 //!
 //! Each says what is written and how the program ends, as a function of the settings and of what was read (`EndsFight`,

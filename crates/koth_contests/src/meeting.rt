@@ -25,9 +25,9 @@ pub struct Terms {
     pub view: View,
 }
 
-/// Plays mine against the opponents, in their order. It writes a line for each as soon as that was fought, and at the end
-/// a line of all together. `file` is what messages call mine's source. If an opponent has no warrior, standard error
-/// says why, and the next one is fought.
+/// Plays mine against the opponents, in their order. It writes a line for each as soon as that was fought, and at the
+/// end a line of all together. `file` is what messages call mine's source. If an opponent has no warrior, standard
+/// error says why, and the next one is fought.
 pub(crate) fn meet_all<R: Files, A: Allocator + Copy, B: Allocator, I: Read, O: Write, E: Write>(
     rt: &R,
     alloc: A,
@@ -96,7 +96,8 @@ fn meet<R: Files, A: Allocator + Copy, B: Allocator, I: Read, O: Write, E: Write
     requires settings { arena.old.settings ≡ settings.now }
     requires mine { Fits settings.now mine.now }
     requires rounds { rounds_in sum.old + most_rounds ≤ u64.MAX }
-    ensures meets { Meets settings.now terms (entrant file.now mine.now) (string_bytes opponent.now.name) sum.old sum.new result
+    ensures meets { Meets settings.now terms (entrant file.now mine.now)
+        (string_bytes opponent.now.name) sum.old sum.new result
         (O.contents output.old) (O.contents output.new) (E.contents errors.old) (E.contents errors.new) }
     ensures rounds { rounds_in sum.new ≤ rounds_in sum.old + most_rounds }
     ensures settings { arena.new.settings ≡ arena.old.settings }

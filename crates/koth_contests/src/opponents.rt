@@ -70,7 +70,8 @@ pub(crate) fn is_folder<R: Files>(rt: &R, source: Source<'_>) -> bool {
     }
 }
 
-/// Whether what has this name is neither a file nor a folder. A FIFO isn't opened, since that would wait for its writer.
+/// Whether what has this name is neither a file nor a folder. A FIFO isn't opened, since that would wait for its
+/// writer.
 fn is_special<R: Files>(rt: &R, path: &str) -> bool {
     match rt.metadata(path) {
         Ok(found) => !found.is_file() && !found.is_dir(),
@@ -78,9 +79,9 @@ fn is_special<R: Files>(rt: &R, path: &str) -> bool {
     }
 }
 
-/// The opponents that words stand for, in their order. A folder stands for the files in it whose names end with `.red` or
-/// `.RED` and don't begin with a point, in the order of the bytes of their names. If no folder has such a file, each stands
-/// for itself, as an opponent without a warrior. The error is lack of memory.
+/// The opponents that words stand for, in their order. A folder stands for the files in it whose names end with `.red`
+/// or `.RED` and don't begin with a point, in the order of the bytes of their names. If no folder has such a file, each
+/// is for itself, as an opponent without a warrior. The error is lack of memory.
 pub fn opponents_of<R: Files, A: Allocator + Copy>(
     rt: &R,
     alloc: A,

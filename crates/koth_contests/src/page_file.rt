@@ -1,4 +1,4 @@
-//! The file of a page. A new one is written beside it, and takes its place when it is whole.
+//! The file of a page. A new one is written next to it, and takes its place when it is whole.
 
 use koth_commands::{Reason, reason_of, write_whole};
 use std::alloc::{AllocError, Allocator};
@@ -7,9 +7,9 @@ use std::fs::{File, OpenFile};
 use std::io::ErrorKind;
 use std::rt::Files;
 
-/// Writes a page to the file at this path. A plain file that is there, or none, is replaced by a new file, which is written
-/// under the name with `.new` after it first. If that fails, what is there stays. What is no plain file, as a link or a
-/// FIFO, is written to.
+/// Writes a page to the file at this path. A plain file that is there, or none, is replaced by a new file, which is
+/// written under the name with `.new` after it first. If that fails, what is there stays. What is no plain file, as a
+/// link or a FIFO, is written to.
 pub(crate) fn write_page<R: Files, A: Allocator + Copy>(
     rt: &R,
     alloc: A,
@@ -54,8 +54,8 @@ fn replace<R: Files>(rt: &R, path: &str, new: &str, page: &[u8]) -> Result<(), R
     placed
 }
 
-/// Writes a page to a new file, and makes it reach the disk. Who may read it are those who may read the file at this path,
-/// if there is one and the system lets it be so.
+/// Writes a page to a new file, and makes it reach the disk. Who may read it are those who may read the file at this
+/// path, if there is one and the system lets it be so.
 fn written<R: Files>(rt: &R, path: &str, file: R::File, page: &[u8]) -> Result<(), Reason> {
     let mut file = file;
     if let Err(fault) = write_whole(&mut file, page) {

@@ -40,7 +40,8 @@ pub(crate) fn pair_from<'f, R: Files, A: Allocator + Copy, I: Read>(
     input: &mut I,
 ) -> Result<Pair<A>, NoWarrior<'f, A>>
     ensures comes { MatchResult result (ArePairOf settings.now) (IsNoneOf settings.now) }
-    ensures taken { AreTaken settings.now (is_input older.entry) (is_input younger.entry) result (I.remaining input.old) (I.remaining input.new) }
+    ensures taken { AreTaken settings.now (is_input older.entry) (is_input younger.entry) result (I.remaining input.old)
+        (I.remaining input.new) }
 {
     let older = match warrior_from(rt, alloc, settings, older, input) {
         Ok(warrior) => warrior,
@@ -61,7 +62,8 @@ pub(crate) fn warrior_from<'f, R: Files, A: Allocator + Copy, I: Read>(
     input: &mut I,
 ) -> Result<Warrior<A>, NoWarrior<'f, A>>
     ensures comes { MatchResult result (IsWarriorOf settings.now) (IsNoneOf settings.now) }
-    ensures taken { From (is_input source.entry) (IsTaken settings.now result) (I.remaining input.old) (I.remaining input.new) }
+    ensures taken { From (is_input source.entry) (IsTaken settings.now result) (I.remaining input.old)
+        (I.remaining input.new) }
 {
     match source {
         Source::Input(name) => warrior_of(alloc, settings, name, input),

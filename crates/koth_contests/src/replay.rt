@@ -144,7 +144,8 @@ fn answer_round<A: Allocator + Copy>(
 ) -> Result<Answer<A>, AllocError>
     requires pair { ArePairOf settings.now pair.now }
     requires round { may_have settings.now round ≡ true }
-    ensures { IfOk result (IsAnswer settings.now View.Plain (IsWatched settings.now round) (HasNone settings.now round)) }
+    ensures { IfOk result (IsAnswer settings.now View.Plain (IsWatched settings.now round)
+        (HasNone settings.now round)) }
 {
     let found = number_of(alloc, settings, &pair.older, &pair.younger, round)?;
     match found {

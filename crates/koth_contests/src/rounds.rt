@@ -90,7 +90,8 @@ fn put_rounds<A: Allocator, B: Allocator, C: Allocator>(
     requires older { Fits settings.now older.now }
     requires younger { Fits settings.now younger.now }
     ensures { OnOk result (text.new.items ≡ text.old.items
-        ++ (rounds_heading view ++ flat_map (round_line view) (rounds_before settings.now older.now younger.now settings.now.rounds))) }
+        ++ (rounds_heading view ++ flat_map (round_line view)
+        (rounds_before settings.now older.now younger.now settings.now.rounds))) }
 {
     text.extend_from_slice(rounds_heading(view).as_bytes())?;
     for round in 0..settings.rounds() {

@@ -4,7 +4,8 @@ use Rattle.{sector_disk.specs.{Disk.current, Facts.DeviceFacts, Served.{Failed, 
 use Rattle.hill_images.specs.{Opening.{HoldsNoneIn, HoldsOld, IsNotOpened}, declared.refusal.Refusal.Refusal}
 use Rattle.{koth_commands.specs.declared.trouble.Trouble.Trouble, koth_files.specs.Trouble.{old_hill_at, refused_at}}
 
--- what is told of a device without a hill of the new format: whether it holds a hill of the old one, unless reading it for that failed
+-- what is told of a device without a hill of the new format: whether it holds a hill of the old one, unless reading it
+-- for that failed
 abbrev pub TellsNoHill : {D : Type 0} → DeviceFacts D → Bor (List ℕ) → D → D → Trouble → Type 0
 TellsNoHill facts path old new trouble =
     ((trouble ≡ old_hill_at path) × (facts.lawful old → HoldsOld (current (facts.disk old))))

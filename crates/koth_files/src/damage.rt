@@ -9,8 +9,8 @@ use sector_disk::Fault;
 use std::alloc::Allocator;
 use std::rt::Files;
 
-/// Whether a header in the file at this path can't be read though it begins as one, and the hill is there by the other one. It is looked for
-/// twice, since a service may be writing it.
+/// Whether a header in the file at this path can't be read though it begins as one, and the hill is there by the other
+/// one. It is looked for twice, since a service may be writing it.
 pub fn has_lost_header<R: Files>(rt: &R, path: &str) -> bool {
     match FileSource::open(rt, path) {
         Ok(mut source) => is_lost_twice(&mut source),
@@ -18,7 +18,7 @@ pub fn has_lost_header<R: Files>(rt: &R, path: &str) -> bool {
     }
 }
 
-/// Whether two looks at a source, one after the other, find a header that can't be read beside one that can.
+/// Whether two looks at a source, one after the other, find a header that can't be read next to one that can.
 fn is_lost_twice<S: Source>(source: &mut S) -> bool {
     if source.sectors() < 2 {
         return false;

@@ -1,12 +1,12 @@
 //! Hills in files: how one is opened, made, and opened again, and why that can't be.
 //!
-//! `trouble` is why a hill's file can't be worked on. `opening` opens the hill in a file, and `making` makes one, without
-//! warriors or as a copy, whole or not at all. `looking` looks at one without writing its file, and `damage` at what it has
-//! lost.
+//! `trouble` is why a hill's file can't be worked on. `opening` opens the hill in a file, and `making` makes one,
+//! without warriors or as a copy, whole or not at all. `looking` looks at one without writing its file, and `damage` at
+//! what it has lost.
 //!
-//! The main clauses: what is told of a file, and for which fault (`Trouble`), and what is told of a device whose hill is not
-//! opened is what was found on it (`OldHill`). A hill that is looked at stood while it was read, and so did why none is
-//! shown (`Looking`). Of files no contract can say what they hold; tests and scripts do.
+//! The main clauses: what is reported about a file, and for which fault (`Trouble`), and what is reported about a
+//! device whose hill is not opened is what was found on it (`OldHill`). A hill that is looked at stood while it was
+//! read, and so did why none is shown (`Looking`). Of files no contract can say what they hold; tests and scripts do.
 #![tactic(auto)]
 
 mod damage;

@@ -17,9 +17,9 @@ use std::rt::Files;
 /// A hill that was looked at: a store over what was read, which writes to memory alone.
 pub type SeenHill<A> = Store<MemoryDevice<A>, A>;
 
-/// Looks at the hill in a file. The file is opened to be read alone, its lock is not taken, and it is not synced. So a hill on a disk that can't
-/// be written, one that may be read alone, and one that another program works on are shown. It may have a submission that wasn't answered
-/// yet, which a stop of the machine undoes.
+/// Looks at the hill in a file. The file is opened to be read alone, its lock is not taken, and it is not synced. So a
+/// hill on a disk that can't be written, one that may be read alone, and one that another program works on are shown.
+/// It may have a submission that wasn't answered yet, which a stop of the machine undoes.
 pub fn look_hill<'f, R: Files, A: Allocator + Copy>(
     rt: &R,
     alloc: A,
@@ -42,7 +42,9 @@ fn look_on<'f, S: Source, A: Allocator + Copy>(
 ) -> Result<SeenHill<A>, Trouble<'f>>
     ensures kept { IsKept S.facts source.old source.new }
     ensures open_now { IfOk result (λ store. store.reopen ≡ false) }
-    ensures stood { S.facts.lawful source.old → IfOk result (λ store. HillStood (S.facts.size source.old) (shown S.facts source.old) (shown S.facts source.new) store.hill store.generation) }
+    ensures stood { S.facts.lawful source.old
+        → IfOk result (λ store. HillStood (S.facts.size source.old) (shown S.facts source.old)
+        (shown S.facts source.new) store.hill store.generation) }
     ensures refused { S.facts.lawful source.old → IfErr result (IsUnseen S.facts path.entry source.old source.new) }
     ensures of_hill { IfErr result IsOfHill }
 {
@@ -52,8 +54,8 @@ fn look_on<'f, S: Source, A: Allocator + Copy>(
     }
 }
 
-/// Why the hill that a source holds isn't shown. If there is no hill, or a warrior in it can't be read, the source is read once more: whether
-/// there is a hill of the old format, or for which warrior it is.
+/// Why the hill that a source holds isn't shown. If there is no hill, or a warrior in it can't be read, the source is
+/// read once more: whether there is a hill of the old format, or for which warrior it is.
 fn trouble_of_look<'f, S: Source, A: Allocator + Copy>(
     alloc: A,
     source: &mut S,
@@ -72,7 +74,7 @@ fn trouble_of_look<'f, S: Source, A: Allocator + Copy>(
     }
 }
 
-/// What is told of a source that holds no hill. If it can't be read, nothing is said of the old format.
+/// What is reported about a source that holds no hill. If it can't be read, nothing is said of the old format.
 fn trouble_unseen<'f, S: Source, A: Allocator + Copy>(
     alloc: A,
     source: &mut S,
@@ -88,7 +90,8 @@ fn trouble_unseen<'f, S: Source, A: Allocator + Copy>(
     }
 }
 
-/// What is told of a source in which a warrior can't be read. If the source can't be read again, that doesn't say which one it is.
+/// What is reported about a source in which a warrior can't be read. If the source can't be read again, that doesn't
+/// say which one it is.
 fn damage_seen<'f, S: Source, A: Allocator + Copy>(
     alloc: A,
     source: &mut S,

@@ -129,7 +129,8 @@ where
     R::File: TryLock,
     ensures { IfErr result IsOfHill }
 {
-    // the place of a file of zeros would be filled: so nothing is here before the place is taken, and nothing after that
+    // the place of a file of zeros would be filled: so nothing is here before the place is taken, and nothing after
+    // that
     require_none(rt, path)?;
     let place = match Place::take(rt, path, Existing::Kept) {
         Ok(place) => place,

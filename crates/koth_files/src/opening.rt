@@ -59,8 +59,9 @@ where
     }
 }
 
-/// Opens the hill in a file for this program alone, to submit to it. As long as another program has the lock of the file, that is tried again,
-/// for this number of seconds. If the lock is not to be had, the trouble says what can be done.
+/// Opens the hill in a file for this program alone, to submit to it. As long as another program has the lock of the
+/// file, that is tried again, for this number of seconds. If the lock is not to be had, the trouble says what can be
+/// done.
 pub fn open_within<'f, R: Files + Clock, A: Allocator + Copy>(
     rt: &'f R,
     alloc: A,
@@ -89,8 +90,8 @@ where
     }
 }
 
-/// Opens the hill in a file again, which a device has left with these headers. If another hill is there, or an earlier state of that one, nothing
-/// is written, and another program is said to use the file.
+/// Opens the hill in a file again, which a device has left with these headers. If another hill is there, or an earlier
+/// state of that one, nothing is written, and another program is said to use the file.
 pub fn reopen_hill<'f, R: Files, A: Allocator + Copy>(
     rt: &'f R,
     alloc: A,
@@ -113,7 +114,8 @@ where
     }
 }
 
-/// Opens the hill on the device of a file. If a warrior in it can't be read, the file is read once more for which one it is.
+/// Opens the hill on the device of a file. If a warrior in it can't be read, the file is read once more for which one
+/// it is.
 fn open_device<'f, R: Files, A: Allocator + Copy>(
     rt: &'f R,
     alloc: A,
@@ -131,8 +133,8 @@ where
     }
 }
 
-/// What is told of a file that wasn't opened: of a hill with a warrior that can't be read, the entry of the first such warrior too, if that can be
-/// known.
+/// What is reported about a file that wasn't opened: of a hill with a warrior that can't be read, the entry of the
+/// first such warrior too, if that can be known.
 fn with_warrior<'f, R: Files, A: Allocator + Copy>(
     rt: &'f R,
     alloc: A,
@@ -166,7 +168,7 @@ fn open_on<'f, D: Device + Drop, A: Allocator + Copy>(
     }
 }
 
-/// What is told of a refused opening.
+/// What is reported about a refused opening.
 fn trouble_of_opening<'f, D: Device>(path: &'f str, device: &mut D, refusal: Refusal) -> Trouble<'f>
     requires { refusal ≡ Refusal.NotAHill → 2 ≤ D.facts.size device.old }
     ensures told { TellsRefusal D.facts path.entry device.old device.new refusal result }
@@ -178,7 +180,7 @@ fn trouble_of_opening<'f, D: Device>(path: &'f str, device: &mut D, refusal: Ref
     }
 }
 
-/// What is told of a device that holds no hill. If the device fails, nothing is said of the old format.
+/// What is reported about a device that holds no hill. If the device fails, nothing is said of the old format.
 pub(crate) fn without_hill<'f, D: Device>(path: &'f str, device: &mut D) -> Trouble<'f>
     requires { 2 ≤ D.facts.size device.old }
     ensures told { TellsNoHill D.facts path.entry device.old device.new result }

@@ -61,7 +61,8 @@ pub(crate) fn damaged_at<'f>(path: &'f str, entry: u64) -> Trouble<'f>
     }
 }
 
-/// Another program has the lock of the file of a hill at this path, to which a source is submitted, and had it for this number of seconds.
+/// Another program has the lock of the file of a hill at this path, to which a source is submitted, and had it for this
+/// number of seconds.
 pub(crate) fn locked_at<'f>(path: &'f str, seconds: u32) -> Trouble<'f>
     ensures { result ≡ locked_at path.entry seconds }
 {

@@ -19,18 +19,20 @@ pub record TellsFallen (new : Kept) (source : List ℕ) (reply : Reply) (text : 
   pub due : IsDue new source judged
   pub told : text ≡ fell_text entry score ++ fallen_view new judged.bouts
 
--- for people, what became of the warrior of a source; if it fell with its matches, unless there was no memory to fight them again
+-- for people, what became of the warrior of a source; if it fell with its matches, unless there was no memory to fight
+-- them again
 abbrev pub IsOutcome : List Entered → Kept → List ℕ → Reply → List ℕ → Type 0
 IsOutcome stood new source reply text = (text ≡ placing_view stood new reply) ⊎ TellsFallen new source reply text
 
--- what stands after the line of a reply to a source that turned the old hill into the new one: for people what became of its warrior, as lines
--- of JSON its matches, unless there was no memory for that
+-- what stands after the line of a reply to a source that turned the old hill into the new one: for people what became
+-- of its warrior, as lines of JSON its matches, unless there was no memory for that
 abbrev pub IsPlacing : View → Kept → Kept → List ℕ → Reply → List ℕ → Type 0
 IsPlacing View.Plain old new source reply more = more ≡ []
 IsPlacing View.Table old new source reply more = (more ≡ []) ⊎ IsOutcome (roster old) new source reply more
 IsPlacing View.Json old new source reply more = (more ≡ []) ⊎ AreMatches new source reply more
 
--- the text of an answer to a source: the line of its reply and this text after it, and of a refusal as JSON a line that has the reason too
+-- the text of an answer to a source: the line of its reply and this text after it, and of a refusal as JSON a line that
+-- has the reason too
 abbrev pub IsReplyText : View → Reply → List ℕ → List ℕ → Type 0
 IsReplyText View.Plain reply more text = text ≡ reply_line reply ++ more
 IsReplyText View.Table reply more text = text ≡ reply_line reply ++ more
@@ -56,8 +58,8 @@ SaysSubmitted view old new source reply answer = (more : List ℕ) × IsPlacing 
 abbrev pub Submitted : {D : Type 0} → DeviceFacts D → Seen D → List ℕ → Seen D → View → AnswerParts → Type 0
 Submitted facts old source new view answer = (reply : Reply) × Submits facts old source reply new × SaysSubmitted view old.hill new.hill source reply answer
 
--- the reply to a submission of the source, by the hill before and after it: a verdict or a refusal is what the source earns of the hill before it.
--- A store that was just opened never answers `REOPEN`
+-- the reply to a submission of the source, by the hill before and after it: a verdict or a refusal is what the source
+-- earns of the hill before it. A store that was just opened never answers `REOPEN`
 abbrev pub IsReplyTo : Kept → List ℕ → Reply → Kept → Type 0
 IsReplyTo old source (Reply.Placed entry rank score) new = (Reply.Placed entry rank score ≡ kept_reply old source) × (new ≡ kept_next old source)
 IsReplyTo old source (Reply.Fell entry score) new = (Reply.Fell entry score ≡ kept_reply old source) × (new ≡ kept_next old source)
@@ -72,8 +74,8 @@ abbrev pub SaysReply : View → List ℕ → AnswerParts → Type 0
 SaysReply view source answer =
     (old : Kept) × (new : Kept) × (reply : Reply) × IsReplyTo old source reply new × SaysSubmitted view old new source reply answer
 
--- what is answered to a source, by what its reader has left before and after: the answer to the source that was taken; or a fault, and then
--- some of it may have been taken
+-- what is answered to a source, by what its reader has left before and after: the answer to the source that was taken;
+-- or a fault, and then some of it may have been taken
 abbrev pub AnswersSource : (List ℕ → AnswerParts → Type 0) → Option (List ℕ) → Option (List ℕ) → Outcome → Type 0
 AnswersSource Says i j (Ok answer) = (source : List ℕ) × Takes i j source × Says source answer
 AnswersSource Says i j (Err trouble) = IsOfHill trouble × TakesSome i j
@@ -83,7 +85,8 @@ abbrev pub EndsSource : Bool → (List ℕ → AnswerParts → Type 0) → Statu
 EndsSource of_input Says status before after =
     Ends (λ outcome. From of_input (λ i j. AnswersSource Says i j outcome) before.input after.input) status before after
 
--- what is to be seen of a hill: its table, with the matrix of its matches or without, or its settings, with the seed or without
+-- what is to be seen of a hill: its table, with the matrix of its matches or without, or its settings, with the seed or
+-- without
 pub record Sight : Type 0 where
   pub matches : Bool
   pub settings : Bool
@@ -118,7 +121,8 @@ sight_text view sight hill = if sight.settings then settings_text sight.with_see
 abbrev pub SaysShown : View → Sight → AnswerParts → Type 0
 SaysShown view sight answer = (hill : Kept) × (answer ≡ answer_parts Status.Done (sight_text view sight hill) [])
 
--- what is written on standard error before the hill in a file is opened: nothing, or that one of its headers can't be read
+-- what is written on standard error before the hill in a file is opened: nothing, or that one of its headers can't be
+-- read
 abbrev pub TellsNote : Option (List ℕ) → Option (List ℕ) → Type 0
 TellsNote old new = Keeps old new ⊎ TellsWord (codes "NOTE") old new
 

@@ -20,7 +20,8 @@ json_line Reply.Reopen = reply_line Reply.Reopen
 abbrev pub IsRefused : Reply → Type 0
 IsRefused reply = (fault : AsmFault) × (reply ≡ Reply.Refused fault)
 
--- the text of a reply: its line and this text after it, and of a refusal the line that has the place in the source and the reason
+-- the text of a reply: its line and this text after it, and of a refusal the line that has the place in the source and
+-- the reason
 abbrev pub IsJsonText : Reply → List ℕ → List ℕ → Type 0
 IsJsonText (Reply.Placed entry rank score) more text = text ≡ json_line (Reply.Placed entry rank score) ++ more
 IsJsonText (Reply.Fell entry score) more text = text ≡ json_line (Reply.Fell entry score) ++ more
@@ -39,11 +40,13 @@ abbrev pub least_lines : Option ℕ → List ℕ
 least_lines None = []
 least_lines (Some points) = least_line points
 
--- of an entry that falls, by the results of its matches with all on the hill: the lowest points of those that stay, and these matches
+-- of an entry that falls, by the results of its matches with all on the hill: the lowest points of those that stay, and
+-- these matches
 abbrev pub fallen_lines : ℕ → Kept → List Bout → List ℕ
 fallen_lines entry hill bouts = least_lines (least_of hill bouts) ++ bout_lines entry hill.members bouts
 
--- the matches of a challenger with all on the hill, and before these, if it would fall, the lowest points of those that stay
+-- the matches of a challenger with all on the hill, and before these, if it would fall, the lowest points of those that
+-- stay
 abbrev pub judged_lines : Kept → Verdict → List ℕ
 judged_lines hill judged =
     if judged.stays then bout_lines judged.entry hill.members judged.bouts else fallen_lines judged.entry hill judged.bouts
@@ -60,8 +63,8 @@ youngest_lines entry hill = bout_lines entry hill.members (youngest_bouts hill.r
 abbrev pub AreFallenLines : Kept → List ℕ → ℕ → List ℕ → Type 0
 AreFallenLines hill source entry more = (judged : Verdict) × IsDue hill source judged × (more ≡ fallen_lines entry hill judged.bouts)
 
--- what stands after the line of a reply to a source, by the hill after it: the matches of a warrior that was placed, who is the youngest then,
--- what one that fell is told, and else nothing
+-- what stands after the line of a reply to a source, by the hill after it: the matches of a warrior that was placed,
+-- who is the youngest then, what one that fell is told, and else nothing
 abbrev pub AreMatches : Kept → List ℕ → Reply → List ℕ → Type 0
 AreMatches hill source (Reply.Placed entry rank score) more = more ≡ youngest_lines entry hill
 AreMatches hill source (Reply.Fell entry score) more = AreFallenLines hill source entry more

@@ -6,7 +6,8 @@ use Rattle.hill_store.specs.{Earned.kept_reply, Seen.{Seen, Submits}, declared.r
 use Rattle.{koth_words.specs.declared.requests.View.View, koth_views.specs.Fallen.{challenged_view, fallen_view}}
 use Rattle.{koth_commands.specs.Answer.AnswerParts, koth_hills.specs.{Hills.AnswersReply, Json.{IsDue, judged_lines}}}
 
--- for people, the matches of a challenger with all on the hill, and if it would fall the least points with which one stays
+-- for people, the matches of a challenger with all on the hill, and if it would fall the least points with which one
+-- stays
 abbrev pub trial_view : Kept → Verdict → List ℕ
 trial_view hill judged = if judged.stays then challenged_view hill judged.bouts else fallen_view hill judged.bouts
 
@@ -32,7 +33,8 @@ IsTrial facts store view source reply more =
 abbrev pub Tried : {D : Type 0} → DeviceFacts D → Seen D → List ℕ → View → AnswerParts → Type 0
 Tried facts store source view answer = (reply : Reply) × (more : List ℕ) × IsTrial facts store view source reply more × AnswersReply view reply more answer
 
--- a reply without a verdict to a source that is tried on this hill: the refusal that it earns, lack of memory, or for a warrior a worn device
+-- a reply without a verdict to a source that is tried on this hill: the refusal that it earns, lack of memory, or for a
+-- warrior a worn device
 abbrev pub IsUnjudged : Kept → List ℕ → Reply → Type 0
 IsUnjudged hill source (Reply.Placed entry rank score) = ⊥
 IsUnjudged hill source (Reply.Fell entry score) = ⊥

@@ -1,7 +1,8 @@
 -- How wide a text is.
 use Rattle.std.specs.Prelude.{ℕ, ◌+◌, ◌==◌, max, if◌then◌else◌, List, [], ◌∷◌}
 
--- the length of the longest line of a text that stands after `before` bytes of its first line; a line feed doesn't count
+-- the length of the longest line of a text that stands after `before` bytes of its first line; a line feed doesn't
+-- count
 abbrev pub longest_from : ℕ → List ℕ → ℕ
 longest_from before [] = before
 longest_from before (byte ∷ rest) =

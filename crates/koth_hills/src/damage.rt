@@ -1,4 +1,4 @@
-//! What is told of a header that can't be read.
+//! What is reported about a header that can't be read.
 
 ghost use Rattle.koth_hills.specs.Hills.{TellsNote};
 
@@ -8,7 +8,8 @@ use std::alloc::Allocator;
 use std::io::Write;
 use std::rt::Files;
 
-/// Reports that a header in the file at this path can't be read though it begins as one, if the hill is there by the other one.
+/// Reports that a header in the file at this path can't be read though it begins as one, if the hill is there by the
+/// other one.
 pub fn tell_lost_header<R: Files, A: Allocator, E: Write>(
     rt: &R,
     alloc: A,

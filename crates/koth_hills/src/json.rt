@@ -74,7 +74,7 @@ fn put_short(line: &mut Line, number: u32)
     line.put(Buffer::new().format(number).as_bytes());
 }
 
-/// What stands after the line of a reply, by the hill after it: the matches of a warrior that was placed, and what one that
+/// What is after the line of a reply, by the hill after it: the matches of a warrior that was placed, and what one that
 /// fell is told. For that one its matches are fought once more.
 pub(crate) fn matches_lines<D: Device, A: Allocator + Copy>(
     alloc: A,
@@ -110,8 +110,8 @@ fn youngest_lines<A: Allocator + Copy>(
     Ok(lines)
 }
 
-/// What the warrior of a source is told that fell under this entry. The error comes also if there is no memory to fight its
-/// matches once more.
+/// What the warrior of a source is told that fell under this entry. The error comes also if there is no memory to fight
+/// its matches once more.
 fn fell_lines<D: Device, A: Allocator + Copy>(
     alloc: A,
     store: &mut Store<D, A>,
@@ -127,8 +127,8 @@ fn fell_lines<D: Device, A: Allocator + Copy>(
     }
 }
 
-/// Of an entry that falls, by the results of its matches with all on the hill: the lowest points of those that stay, and these
-/// matches.
+/// Of an entry that falls, by the results of its matches with all on the hill: the lowest points of those that stay,
+/// and these matches.
 fn fallen_lines<A: Allocator + Copy>(
     alloc: A,
     hill: &Hill<A>,
@@ -153,7 +153,8 @@ fn put_lowest<A: Allocator>(lines: &mut Vec<u8, A>, least: Option<u64>) -> Resul
     }
 }
 
-/// The matches of a challenger with all on the hill, and before these, if it would fall, the lowest points of those that stay.
+/// The matches of a challenger with all on the hill, and before these, if it would fall, the lowest points of those
+/// that stay.
 pub(crate) fn judged_lines<A: Allocator + Copy>(
     alloc: A,
     hill: &Hill<A>,

@@ -10,7 +10,7 @@ use koth_views::{Entered, Place, fallen_view, fell_text, placed_text};
 use sector_disk::Device;
 use std::alloc::{AllocError, Allocator};
 
-/// Where the warrior of a source stands after this reply, or that it fell, and its matches. If it fell, the lowest
+/// Where the warrior of a source is after this reply, or that it fell, and its matches. If it fell, the lowest
 /// points of those that stay too. `before` is the hill's roster from before the reply.
 pub(crate) fn outcome_text<D: Device, A: Allocator + Copy>(
     alloc: A,

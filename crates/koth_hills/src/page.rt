@@ -12,8 +12,8 @@ use sector_disk::Device;
 use std::alloc::{AllocError, Allocator};
 use std::rt::Files;
 
-/// Answers with the page of the hill in a file: one file of HTML. The file is only read, and its lock is not taken: so `page` can show a hill
-/// while a service works on it.
+/// Answers with the page of the hill in a file: one file of HTML. The file is only read, and its lock is not taken: so
+/// `page` can show a hill while a service works on it.
 pub fn perform_page<'p, R: Files, A: Allocator + Copy>(
     rt: &R,
     alloc: A,

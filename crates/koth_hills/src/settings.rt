@@ -8,8 +8,8 @@ use koth_words::given_as;
 use std::alloc::{AllocError, Allocator};
 use war_types::{RawSettings, Settings};
 
-/// The settings of a hill as a line of options, which `koth` takes as they stand: the seed among them only if that is asked for. The error is
-/// lack of memory.
+/// The settings of a hill as a line of options, which `koth` takes as they are: the seed among them only if that is
+/// asked for. The error is lack of memory.
 pub(crate) fn settings_text<A: Allocator>(
     alloc: A,
     settings: &Settings,
@@ -30,7 +30,8 @@ fn put_settings<A: Allocator>(
     given: RawSettings,
     with_seed: bool,
 ) -> Result<(), AllocError>
-    ensures { OnOk result (text.new.items ≡ text.old.items ++ sizes_text given ++ bounds_text given ++ seed_text with_seed given.seed) }
+    ensures { OnOk result (text.new.items ≡ text.old.items ++ sizes_text given ++ bounds_text given
+        ++ seed_text with_seed given.seed) }
 {
     put_sizes(text, given)?;
     put_bounds(text, given)?;

@@ -19,9 +19,10 @@ use sector_disk::Device;
 use std::alloc::{AllocError, Allocator};
 use std::rt::Files;
 
-/// Answers with the table of the hill in a file, as a session answers `SHOW`, in columns for people, or as lines of JSON. If that is asked for, the matrix of its
-/// matches follows: who won how many rounds against whom. Or it answers with the hill's settings as options in place of these. The file is only
-/// read, and its lock is not taken: so `show` can show a hill while a service works on it.
+/// Answers with the table of the hill in a file, as a session answers `SHOW`, in columns for people, or as lines of
+/// JSON. If that is asked for, the matrix of its matches follows: who won how many rounds against whom. Or it answers
+/// with the hill's settings as options in place of these. The file is only read, and its lock is not taken: so `show`
+/// can show a hill while a service works on it.
 pub fn perform_show<'s, R: Files, A: Allocator + Copy>(
     rt: &R,
     alloc: A,

@@ -41,7 +41,8 @@ pub fn perform_submit<'s, R: Files + Clock, A: Allocator + Copy, I: Read>(
 ) -> Result<Answer<A>, Trouble<'s>>
 where
     R::File: TryLock,
-    ensures { From (is_input source.entry) (λ i j. AnswersSource (SaysReply view) i j result) (I.remaining input.old) (I.remaining input.new) }
+    ensures { From (is_input source.entry) (λ i j. AnswersSource (SaysReply view) i j result) (I.remaining input.old)
+        (I.remaining input.new) }
 {
     match open_within(rt, alloc, hill, wait) {
         Ok(mut store) => submit_read(rt, alloc, &mut store, source, view, input),
@@ -49,7 +50,8 @@ where
     }
 }
 
-/// Submits a source, of the input or of a file, to a store that was just opened. For a file nothing is taken from the input.
+/// Submits a source, of the input or of a file, to a store that was just opened. For a file nothing is taken from the
+/// input.
 fn submit_read<'s, R: Files, D: Device, A: Allocator + Copy, I: Read>(
     rt: &R,
     alloc: A,
@@ -59,7 +61,8 @@ fn submit_read<'s, R: Files, D: Device, A: Allocator + Copy, I: Read>(
     input: &mut I,
 ) -> Result<Answer<A>, Trouble<'s>>
     requires { store.old.reopen ≡ false }
-    ensures { From (is_input source.entry) (λ i j. AnswersSource (SaysReply view) i j result) (I.remaining input.old) (I.remaining input.new) }
+    ensures { From (is_input source.entry) (λ i j. AnswersSource (SaysReply view) i j result) (I.remaining input.old)
+        (I.remaining input.new) }
 {
     match source {
         Source::Input(name) => submit_text_from(alloc, store, name, view, input),
@@ -100,9 +103,9 @@ pub(crate) struct SourceText<'s> {
     pub text: &'s [u8],
 }
 
-/// Submits a source to a store. The answer is the reply's line; in the view for people what became of the warrior follows,
-/// and as lines of JSON its matches. If there is no memory for the line, nothing is submitted. A refusal as JSON is a longer
-/// line, for which there may be no memory after that.
+/// Submits a source to a store. The answer is the reply's line; in the view for people what became of the warrior
+/// follows, and as lines of JSON its matches. If there is no memory for the line, nothing is submitted. A refusal as
+/// JSON is a longer line, for which there may be no memory after that.
 fn submit_source<D: Device, A: Allocator + Copy>(
     alloc: A,
     store: &mut Store<D, A>,
@@ -122,8 +125,8 @@ fn submit_source<D: Device, A: Allocator + Copy>(
 }
 
 /// The answer to a source: the line of the reply, in this room, and this text after it if there is memory for that. The
-/// note of a refusal is the place in the source and the reason, which its line of JSON has in place of a note; that alone
-/// needs memory.
+/// note of a refusal is the place in the source and the reason, which its line of JSON has in place of a note; that
+/// alone needs memory.
 pub(crate) fn reply_answer<A: Allocator + Copy>(
     alloc: A,
     room: Vec<u8, A>,
@@ -135,7 +138,8 @@ pub(crate) fn reply_answer<A: Allocator + Copy>(
 ) -> Result<Answer<A>, AllocError>
     requires empty { room.items ≡ [] }
     requires fits { vec_len room + 96 ≤ vec_capacity room }
-    ensures answers { IfOk result (λ answer. AnswersReply view reply.now more.now answer ⊎ AnswersReply view reply.now [] answer) }
+    ensures answers { IfOk result (λ answer. AnswersReply view reply.now more.now answer
+        ⊎ AnswersReply view reply.now [] answer) }
     ensures memory { OnErr result (IsRefused reply.now) }
 {
     match view {
@@ -178,7 +182,8 @@ fn json_answer<A: Allocator + Copy>(
 ) -> Result<Answer<A>, AllocError>
     requires empty { room.items ≡ [] }
     requires fits { vec_len room + 96 ≤ vec_capacity room }
-    ensures answers { IfOk result (λ answer. AnswersReply View.Json reply.now more.now answer ⊎ AnswersReply View.Json reply.now [] answer) }
+    ensures answers { IfOk result (λ answer. AnswersReply View.Json reply.now more.now answer
+        ⊎ AnswersReply View.Json reply.now [] answer) }
     ensures memory { OnErr result (IsRefused reply.now) }
 {
     match *reply {
@@ -245,7 +250,7 @@ fn note_of<A: Allocator + Copy>(
     }
 }
 
-/// Who stands on the hill before a submission, if people are to read what becomes of it and there is memory for that.
+/// Who is on the hill before a submission, if people are to read what becomes of it and there is memory for that.
 fn roster_for<A: Allocator + Copy>(alloc: A, view: View, hill: &Hill<A>) -> Option<Vec<Entered, A>>
     ensures plain { view ≡ View.Plain → result ≡ None }
     ensures roster { IfSome result (λ stood. stood.items ≡ roster hill.now) }
@@ -256,7 +261,7 @@ fn roster_for<A: Allocator + Copy>(alloc: A, view: View, hill: &Hill<A>) -> Opti
     }
 }
 
-/// What stands after the line of a reply: for people what became of the warrior of a source, and as lines of JSON its
+/// What is after the line of a reply: for people what became of the warrior of a source, and as lines of JSON its
 /// matches, if there is memory for that; else nothing.
 fn placing_text<D: Device, A: Allocator + Copy>(
     alloc: A,
@@ -270,7 +275,8 @@ fn placing_text<D: Device, A: Allocator + Copy>(
     ensures none { view ≡ View.Table → before.now ≡ None → result.items ≡ [] }
     ensures some { view ≡ View.Table → IfSome before.now (λ stood. (result.items ≡ [])
         ⊎ IsOutcome stood.items store.old.hill source.now reply.now result.items) }
-    ensures json { view ≡ View.Json → (result.items ≡ []) ⊎ AreMatches store.old.hill source.now reply.now result.items }
+    ensures json { view ≡ View.Json → (result.items ≡ [])
+        ⊎ AreMatches store.old.hill source.now reply.now result.items }
     ensures unchanged { store.new ≡ store.old }
 {
     match view {

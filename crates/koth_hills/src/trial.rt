@@ -17,9 +17,9 @@ use std::alloc::{AllocError, Allocator};
 use std::io::Read;
 use std::rt::Files;
 
-/// Answers what a submission of a source to the hill in a file would be answered, and for people, or as lines of JSON, its
-/// matches with all on the hill. Nothing is submitted: the hill is looked at before the source is read, its file is only read, and its lock
-/// is not taken.
+/// Answers what a submission of a source to the hill in a file would be answered, and for people, or as lines of JSON,
+/// its matches with all on the hill. Nothing is submitted: the hill is looked at before the source is read, its file is
+/// only read, and its lock is not taken.
 pub fn perform_try<'s, R: Files, A: Allocator + Copy, I: Read>(
     rt: &R,
     alloc: A,
@@ -28,7 +28,8 @@ pub fn perform_try<'s, R: Files, A: Allocator + Copy, I: Read>(
     view: View,
     input: &mut I,
 ) -> Result<Answer<A>, Trouble<'s>>
-    ensures { From (is_input source.entry) (λ i j. AnswersSource (SaysTrial view) i j result) (I.remaining input.old) (I.remaining input.new) }
+    ensures { From (is_input source.entry) (λ i j. AnswersSource (SaysTrial view) i j result) (I.remaining input.old)
+        (I.remaining input.new) }
 {
     match look_hill(rt, alloc, hill) {
         Ok(mut store) => try_read(rt, alloc, &mut store, source, view, input),
@@ -36,7 +37,8 @@ pub fn perform_try<'s, R: Files, A: Allocator + Copy, I: Read>(
     }
 }
 
-/// Tries a source, of the input or of a file, on the hill of a store that was just opened. For a file nothing is taken from the input.
+/// Tries a source, of the input or of a file, on the hill of a store that was just opened. For a file nothing is taken
+/// from the input.
 fn try_read<'s, R: Files, D: Device, A: Allocator + Copy, I: Read>(
     rt: &R,
     alloc: A,
@@ -46,7 +48,8 @@ fn try_read<'s, R: Files, D: Device, A: Allocator + Copy, I: Read>(
     input: &mut I,
 ) -> Result<Answer<A>, Trouble<'s>>
     requires { store.old.reopen ≡ false }
-    ensures { From (is_input source.entry) (λ i j. AnswersSource (SaysTrial view) i j result) (I.remaining input.old) (I.remaining input.new) }
+    ensures { From (is_input source.entry) (λ i j. AnswersSource (SaysTrial view) i j result) (I.remaining input.old)
+        (I.remaining input.new) }
 {
     match source {
         Source::Input(name) => try_text_from(alloc, store, name, view, input),
@@ -107,7 +110,7 @@ fn try_source<D: Device, A: Allocator + Copy>(
     }
 }
 
-/// What stands after the line of the reply.
+/// What is after the line of the reply.
 fn trial_text<A: Allocator + Copy>(
     alloc: A,
     hill: &Hill<A>,

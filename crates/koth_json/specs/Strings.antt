@@ -2,8 +2,8 @@
 use Rattle.std.specs.Prelude.{ℕ, zero, suc, ◌+◌, ◌/◌, ◌%◌, ◌==◌, ◌||◌, nat_lt, if◌then◌else◌, List, [], ◌∷◌, ◌++◌, length, take, drop, codes}
 use Rattle.std.specs.{Char.digit_char, List.flat_map, Str.Lossy.{replacement_bytes, utf8_valid_len}}
 
--- the bytes as UTF-8: their longest beginning that is UTF-8, U+FFFD for the byte after it, and so on with the bytes after that one, for as
--- many bytes that are no UTF-8 at most
+-- the bytes as UTF-8: their longest beginning that is UTF-8, U+FFFD for the byte after it, and so on with the bytes
+-- after that one, for as many bytes that are no UTF-8 at most
 abbrev pub mended_within : ℕ → List ℕ → List ℕ
 mended_within zero bytes = bytes
 mended_within (suc n) bytes =

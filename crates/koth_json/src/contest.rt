@@ -18,7 +18,8 @@ pub struct Contender<'c> {
     pub author: &'c Title,
 }
 
-/// Puts the line of a contest of one warrior with another: both, and the rounds and the points of the first. The error is lack of memory.
+/// Puts the line of a contest of one warrior with another: both, and the rounds and the points of the first. The error
+/// is lack of memory.
 pub fn put_match<A: Allocator>(
     lines: &mut Vec<u8, A>,
     mine: Contender<'_>,
@@ -100,7 +101,7 @@ fn end_with_result<A: Allocator>(
     end_with(line, &fields)
 }
 
-/// What is told of a round.
+/// What is reported about a round.
 #[derive(Clone, Copy)]
 pub struct Round<'r> {
     /// The first round is 1.

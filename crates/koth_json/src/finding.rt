@@ -41,7 +41,7 @@ pub struct Finding<'f> {
     pub message: &'f [u8],
     /// The text of the line.
     pub text: &'f [u8],
-    /// The copy of a block that is to blame, if the line stands in one.
+    /// The copy of a block that is to blame, if the line is in one.
     pub copy: Option<Copied<'f>>,
 }
 

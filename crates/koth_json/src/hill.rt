@@ -14,8 +14,8 @@ use koth_views::against_all;
 use std::alloc::{AllocError, Allocator};
 use war_types::RawSettings;
 
-/// The lines of a hill: its own, those of its warriors by rank, and with `matches` those of their matches. `given` are its settings, as options
-/// give them. The error is lack of memory.
+/// The lines of a hill: its own, those of its warriors by rank, and with `matches` those of their matches. `given` are
+/// its settings, as options give them. The error is lack of memory.
 pub fn hill_text<A: Allocator + Copy, B: Allocator>(
     alloc: A,
     hill: &Hill<B>,
@@ -47,8 +47,8 @@ fn put_matches<A: Allocator, B: Allocator>(
     }
 }
 
-/// Puts the line of a hill: how many warriors stand on it, and its settings, as options give them, without the seed. The error is lack of
-/// memory.
+/// Puts the line of a hill: how many warriors are on it, and its settings, as options give them, without the seed. The
+/// error is lack of memory.
 fn put_hill<A: Allocator>(
     lines: &mut Vec<u8, A>,
     warriors: u64,
@@ -71,7 +71,7 @@ fn put_hill<A: Allocator>(
     put_object(lines, "hill", &fields)
 }
 
-/// Puts the lines of the warriors in these rows, which stand by rank. The error is lack of memory.
+/// Puts the lines of the warriors in these rows, which are by rank. The error is lack of memory.
 fn put_rows<A: Allocator, B: Allocator>(
     lines: &mut Vec<u8, A>,
     hill: &Hill<B>,
@@ -123,7 +123,8 @@ fn put_kept<A: Allocator, B: Allocator>(
     Ok(())
 }
 
-/// Puts the lines of the matches of an entry with the first warriors on a hill, who are older, by their results. The error is lack of memory.
+/// Puts the lines of the matches of an entry with the first warriors on a hill, who are older, by their results. The
+/// error is lack of memory.
 pub fn put_bouts<A: Allocator, B: Allocator>(
     lines: &mut Vec<u8, A>,
     hill: &Hill<B>,

@@ -60,7 +60,7 @@ pub(crate) enum Key {
 }
 
 impl Key {
-    /// The name as it stands in an object.
+    /// The name as it is in an object.
     #[tactic(auto, unfolding(crate::specs::Keys::key_text))]
     pub(crate) fn text(self) -> &'static str
         ensures { result.now ≡ key_text self }

@@ -1,11 +1,12 @@
 //! What commands answer to programs as JSON: one object a line, no value of which is an object or an array.
 //!
-//! `string` puts a string for any bytes, `object` the line of an object, whose fields have the names of `key`. On these stand the lines
-//! of commands: `contest` has those of `fight`, `hill` of `show`, `reply` of `submit`, `try` and `audit`, `finding` of `check` and of a
-//! source that is refused.
+//! `string` puts a string for any bytes, `object` the line of an object, whose fields have the names of `key`. On these
+//! are the lines of commands: `contest` has those of `fight`, `hill` of `show`, `reply` of `submit`, `try` and `audit`,
+//! `finding` of `check` and of a source that is refused.
 //!
-//! Each clause gives the whole line by a definition of `specs`. `proofs/ReadsBack` shows that such a line is the JSON of its fields, by the
-//! grammar of the crate `json`. It knows no store, files or streams. The error of all is lack of memory.
+//! Each clause gives the whole line by a definition of `specs`. `proofs/ReadsBack` shows that such a line is the JSON
+//! of its fields, by the grammar of the crate `json`. It knows no store, files or streams. The error of all is lack of
+//! memory.
 #![tactic(auto)]
 
 mod contest;

@@ -26,7 +26,8 @@ pub(crate) fn put_object<A: Allocator>(
     name: &str,
     fields: &[Field<'_>],
 ) -> Result<(), AllocError>
-    ensures { OnOk result (line.new.items ≡ line.old.items ++ object_line (type_field name.now) (map field_of fields.now)) }
+    ensures { OnOk result (line.new.items ≡ line.old.items
+        ++ object_line (type_field name.now) (map field_of fields.now)) }
 {
     begin(line, (Key::Type, Value::Text(name.as_bytes())))?;
     end_with(line, fields)

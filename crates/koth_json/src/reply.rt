@@ -55,7 +55,8 @@ pub fn put_worn<A: Allocator>(lines: &mut Vec<u8, A>) -> Result<(), AllocError>
     put_object(lines, "worn", &[])
 }
 
-/// Puts the line of an audit: whether each result that the hill keeps is its match's, and the first that isn't. The error is lack of memory.
+/// Puts the line of an audit: whether each result that the hill keeps is its match's, and the first that isn't. The
+/// error is lack of memory.
 pub fn put_audit<A: Allocator>(
     lines: &mut Vec<u8, A>,
     found: Option<Untrue>,

@@ -58,7 +58,8 @@ is_of_damage Fault.Damaged = true
 is_of_damage Fault.Stream = false
 is_of_damage Fault.Memory = false
 
--- what is required of a file in which, for this fault, no hill of the new format was seen: that there is one of the old format. Else this is told
+-- what is required of a file in which, for this fault, no hill of the new format was seen: that there is one of the old
+-- format. Else this is told
 abbrev pub RequiresOld : List ℕ → Fault → Result (Unit {0}) Trouble → Type 0
 RequiresOld path fault (Ok none) = is_of_old_hill fault ≡ true
 RequiresOld path fault (Err trouble) =

@@ -19,10 +19,10 @@ use war_types::range_of;
 /// Warriors that a hill holds at most, whatever its settings are.
 const GREATEST_CAPACITY: u16 = range_of!(capacity, greatest);
 
-/// Moves the hill in a file of the old format to another file, in the new one. Nothing is written to the old file, which
-/// is looked at first: without a header of the old format nothing is made. The new file is made if it is missing, large
-/// enough for any hill, and stays if a slot of the old one can't be read. A new file that holds anything but zeros is
-/// refused as `Occupied` and stays as it is.
+/// Moves the hill in a file of the old format to another file, in the new one. Nothing is written to the old file,
+/// which is looked at first: without a header of the old format nothing is made. The new file is made if it is missing,
+/// large enough for any hill, and stays if a slot of the old one can't be read. A new file that holds anything but
+/// zeros is refused as `Occupied` and stays as it is.
 pub fn perform_migrate<'m, R: Files, A: Allocator + Copy>(
     rt: &R,
     alloc: A,

@@ -5,6 +5,7 @@
 pub enum Links {
     /// To nothing: the page is a file of its own.
     None,
-    /// To the first round of each match, as a service shows it: `/replay/OLDER/YOUNGER/1` by the entry numbers of the two.
+    /// To the first round of each match, as a service shows it: `/replay/OLDER/YOUNGER/1` by the entry numbers of the
+    /// two.
     Rounds,
 }

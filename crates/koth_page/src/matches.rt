@@ -42,7 +42,8 @@ fn put_rank_headings<A: Allocator>(
     page: &mut Vec<u8, A>,
     rows: &[Row<'_>],
 ) -> Result<(), AllocError>
-    ensures { OnOk result (page.new.items ≡ page.old.items ++ flat_map (λ (rank, row). rank_heading rank row) (enumerate_from 1 (rows_parts rows.now))) }
+    ensures { OnOk result (page.new.items ≡ page.old.items
+        ++ flat_map (λ (rank, row). rank_heading rank row) (enumerate_from 1 (rows_parts rows.now))) }
 {
     for place in 0..rows.len() {
         put_rank_heading(page, place as u64 + 1, &rows[place])?;
@@ -77,7 +78,8 @@ fn put_rows<A: Allocator, B: Allocator>(
     links: Links,
     rows: &[Row<'_>],
 ) -> Result<(), AllocError>
-    ensures { OnOk result (page.new.items ≡ page.old.items ++ matches_rows hill.now links (rows_parts rows.now) (rows_parts rows.now)) }
+    ensures { OnOk result (page.new.items ≡ page.old.items
+        ++ matches_rows hill.now links (rows_parts rows.now) (rows_parts rows.now)) }
 {
     for place in 0..rows.len() {
         put_row(page, hill, links, rows, place as u64 + 1, &rows[place])?;
@@ -95,7 +97,8 @@ fn put_row<A: Allocator, B: Allocator>(
     rank: u64,
     row: &Row<'_>,
 ) -> Result<(), AllocError>
-    ensures { OnOk result (page.new.items ≡ page.old.items ++ matches_row hill.now links (rows_parts rows.now) rank (row_parts row.now)) }
+    ensures { OnOk result (page.new.items ≡ page.old.items
+        ++ matches_row hill.now links (rows_parts rows.now) rank (row_parts row.now)) }
 {
     page.extend_from_slice(b"<tr>")?;
     put_line(page, number_cell(rank))?;
@@ -111,7 +114,8 @@ fn put_cells<A: Allocator, B: Allocator>(
     row: &Row<'_>,
     rows: &[Row<'_>],
 ) -> Result<(), AllocError>
-    ensures { OnOk result (page.new.items ≡ page.old.items ++ flat_map (match_cell hill.now links (row_parts row.now)) (rows_parts rows.now)) }
+    ensures { OnOk result (page.new.items ≡ page.old.items
+        ++ flat_map (match_cell hill.now links (row_parts row.now)) (rows_parts rows.now)) }
 {
     for place in 0..rows.len() {
         put_cell(page, hill, links, row, &rows[place])?;
@@ -127,7 +131,8 @@ fn put_cell<A: Allocator, B: Allocator>(
     row: &Row<'_>,
     other: &Row<'_>,
 ) -> Result<(), AllocError>
-    ensures { OnOk result (page.new.items ≡ page.old.items ++ match_cell hill.now links (row_parts row.now) (row_parts other.now)) }
+    ensures { OnOk result (page.new.items ≡ page.old.items
+        ++ match_cell hill.now links (row_parts row.now) (row_parts other.now)) }
 {
     if row.entry == other.entry {
         page.extend_from_slice(b"<td class=\"self\">&middot;</td>")
@@ -145,7 +150,8 @@ fn put_fought_cell<A: Allocator>(
     row: &Row<'_>,
     other: &Row<'_>,
 ) -> Result<(), AllocError>
-    ensures { OnOk result (page.new.items ≡ page.old.items ++ fought_cell links rounds (row_parts row.now) (row_parts other.now)) }
+    ensures { OnOk result (page.new.items ≡ page.old.items
+        ++ fought_cell links rounds (row_parts row.now) (row_parts other.now)) }
 {
     page.extend_from_slice(b"<td title=\"")?;
     put_sides(page, row, other)?;
@@ -164,7 +170,8 @@ fn put_fought<A: Allocator>(
     row: &Row<'_>,
     other: &Row<'_>,
 ) -> Result<(), AllocError>
-    ensures { OnOk result (page.new.items ≡ page.old.items ++ fought_text links rounds (row_parts row.now) (row_parts other.now)) }
+    ensures { OnOk result (page.new.items ≡ page.old.items
+        ++ fought_text links rounds (row_parts row.now) (row_parts other.now)) }
 {
     match links {
         Links::None => put_line(page, rounds_line(rounds)),

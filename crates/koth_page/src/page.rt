@@ -12,9 +12,10 @@ use crate::standing::put_standing;
 use koth_hill::{Hill, Row};
 use std::alloc::{AllocError, Allocator};
 
-/// The page of a hill: what a hill is, its settings without the seed, its table, and its matches; a hill without warriors has a sentence
-/// instead of the two tables. It is HTML in ASCII that loads nothing and has no script. No match is fought. The links say whether each
-/// result leads to the first round of its match, which a service shows. The error is lack of memory.
+/// The page of a hill: what a hill is, its settings without the seed, its table, and its matches; a hill without
+/// warriors has a sentence instead of the two tables. It is HTML in ASCII that loads nothing and has no script. No
+/// match is fought. The links say whether each result leads to the first round of its match, which a service shows. The
+/// error is lack of memory.
 pub fn hill_page<A: Allocator + Copy, B: Allocator>(
     alloc: A,
     hill: &Hill<B>,
@@ -25,7 +26,7 @@ pub fn hill_page<A: Allocator + Copy, B: Allocator>(
     // Whatever a name is, what stands for it has no character that begins or ends a tag or the value of an attribute ..
     ensures harmless { (text : List ℕ) → IsTrue (list_all is_harmless (escaped text)) }
 
-    // .. so the page has all of those that it would have if nobody on the hill had a name, and no others.
+    // .. so the page has all of those that it would have if no one on the hill had a name, and no others.
     ensures markup { IfOk result (λ page. markup_of page.items ≡ markup_of (hill_page (nameless hill.now) links)) }
     ensures ascii { IfOk result (λ page. IsTrue (list_all is_page_byte page.items)) }
 

@@ -1,6 +1,6 @@
 //! The parts of a page that are the same on every hill.
 
-/// From the beginning of a page to the settings of its hill. The style sheet stands here.
+/// From the beginning of a page to the settings of its hill. The style sheet is here.
 pub(crate) const HEAD: &[u8] = b"<!DOCTYPE html>
 <html lang=\"en\">
 <head>

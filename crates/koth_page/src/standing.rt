@@ -11,7 +11,8 @@ use koth_text::{Tally, put_all};
 use koth_views::against_all;
 use std::alloc::{AllocError, Allocator};
 
-/// Puts the table of these rows: by rank, with entry, points, rounds won, lost and tied against all others, age, name and author.
+/// Puts the table of these rows: by rank, with entry, points, rounds won, lost and tied against all others, age, name
+/// and author.
 pub(crate) fn put_standing<A: Allocator, B: Allocator>(
     page: &mut Vec<u8, A>,
     hill: &Hill<B>,

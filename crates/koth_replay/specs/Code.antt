@@ -1,4 +1,5 @@
--- Of the code alone: the turns that it keeps, what it keeps of a round that has begun, and how it puts addresses in order. No definition names a word of this file.
+-- Of the code alone: the turns that it keeps, what it keeps of a round that has begun, and how it puts addresses in
+-- order. No definition names a word of this file.
 use Rattle.std.specs.Prelude.{◌≡◌, ℕ, ◌*◌, ◌<◌, ◌≤◌, ◌⊎◌, min, nat_lt, List, [], length, map, replicate, slice_index, slice_index_or, MatchOption, Option, Vec}
 use Rattle.mars_core.specs.{Cells.blank, Round.{Round, after_turns, outcome}}
 use Rattle.koth_replay.specs.{declared.event.Event.Event, declared.opening.Opening.Opening, Picture.{picture_of, drawn}, Turn.{core_events, turn_events}, Replay.{ReplayParts, events_before}}

@@ -1,4 +1,5 @@
--- Of the code alone: the turn that a loop made last, and the turn that changed a cell last. No definition names a word of this file.
+-- Of the code alone: the turn that a loop made last, and the turn that changed a cell last. No definition names a word
+-- of this file.
 use Rattle.std.specs.Prelude.{◌≡◌, ℕ, ◌-◌, ◌≤◌, nat_lt, false, if◌then◌else◌, slice_get, MatchOption, Option, Some, None}
 use Rattle.mars_core.specs.{declared.round.Side.Side, Cells.cell, Round.{Round, is_over, queue_of, after_turn}}
 use Rattle.koth_replay.specs.{declared.ending.Made.Made, declared.ending.Change.Change, declared.story.{Fall.Fall, Story.Story, Writer.Writer}, Story.{round_before, IsLastChange, IsUntouched}}

@@ -2,7 +2,8 @@
 use Rattle.std.specs.Prelude.{ℕ, List, [], ◌∷◌, ◌++◌, drop, slice_set}
 use Rattle.{war_types.specs.declared.instr.Instr.Instr, mars_core.specs.{declared.round.Side.Side, Round.Round}, koth_replay.specs.declared.event.Event.Event}
 
--- what is seen of a round: what each cell holds, the processes of each side by their addresses, the front one first, and the side that is to move
+-- what is seen of a round: what each cell holds, the processes of each side by their addresses, the front one first,
+-- and the side that is to move
 pub record Picture : Type 0 where
   pub cells : List Instr
   pub first : List ℕ

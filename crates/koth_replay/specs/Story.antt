@@ -1,4 +1,5 @@
--- Why a round ended as it did. Turns are counted from 1: turn n leads from the round after n - 1 turns to the round after n turns.
+-- Why a round ended as it did. Turns are counted from 1: turn n leads from the round after n - 1 turns to the round
+-- after n turns.
 use Rattle.std.specs.Prelude.{◌≡◌, ◌≢◌, ◌⊎◌, ℕ, ◌+◌, ◌-◌, ◌*◌, ◌<◌, ◌≤◌, List, [], ◌∷◌, length}
 use Rattle.war_types.specs.{declared.instr.Instr.Instr, declared.settings.RawSettings.RawSettings, Warrior.WarriorParts}
 use Rattle.mars_core.specs.{declared.round.Side.Side, declared.round.Outcome.Outcome, Cells.cell, Round.{Round, queue_of, after_turns}}
@@ -42,7 +43,8 @@ abbrev pub lost_by : Side → Outcome
 lost_by Side.First = Outcome.Second
 lost_by Side.Second = Outcome.First
 
--- a side lost a round in its last turn: before that turn the side was to move and had this one process, which was at this instruction
+-- a side lost a round in its last turn: before that turn the side was to move and had this one process, which was at
+-- this instruction
 pub record IsFall (start : Round) (older younger : List Instr) (position : ℕ) (fall : Fall) : Type 0 where
   pub turn : fall.turn ≡ (end_of start).used
   pub least : 1 ≤ fall.turn
@@ -51,7 +53,8 @@ pub record IsFall (start : Round) (older younger : List Instr) (position : ℕ) 
   pub instr : cell (round_before fall.turn start).core fall.at ≡ fall.instr
   pub writer : IsWriter start older younger position fall.at fall.turn fall.writer
 
--- how round r of a match ended, counted from 0, and why: a side lost it, or both had these numbers of processes at its end
+-- how round r of a match ended, counted from 0, and why: a side lost it, or both had these numbers of processes at its
+-- end
 abbrev pub IsStory : RawSettings → WarriorParts → WarriorParts → ℕ → Story → Type 0
 IsStory s older younger r (Story.Fell fall) =
     (round_outcome s older younger r ≡ lost_by fall.side)

@@ -28,7 +28,8 @@ pub(crate) fn push_loaded<A: Allocator, B: Allocator>(
     core: u16,
 ) -> Result<(), AllocError>
     requires { length arena.now.core ≡ core }
-    ensures { OnOk result (events.new.items ≡ events.old.items ++ core_events core (replicate core blank) arena.now.core) }
+    ensures { OnOk result (events.new.items ≡ events.old.items
+        ++ core_events core (replicate core blank) arena.now.core) }
 {
     for at in 0..core {
         let now = arena.cell(at).unwrap();
@@ -49,8 +50,8 @@ pub(crate) fn held_at<A: Allocator>(arena: &Arena<A>, addresses: &[u16; 8]) -> [
     held
 }
 
-/// Adds an event for each of the first `core` cells that holds another instruction in the arena than before, by their addresses. Only the
-/// cells at `addresses` may have changed, which held `held` before. An address may stand there twice.
+/// Adds an event for each of the first `core` cells that holds another instruction in the arena than before, by their
+/// addresses. Only the cells at `addresses` may have changed, which held `held` before. An address may be there twice.
 pub(crate) fn push_changes<A: Allocator, B: Allocator>(
     events: &mut Vec<Event, A>,
     addresses: &[u16; 8],
@@ -60,7 +61,8 @@ pub(crate) fn push_changes<A: Allocator, B: Allocator>(
 ) -> Result<(), AllocError>
     requires here { All (λ a. a < core) addresses.now }
     requires there { length arena.now.core ≡ core }
-    ensures { OnOk result ((before : List Instr) → held.now ≡ map (cell before) addresses.now → AreSameBut addresses.now before arena.now.core
+    ensures { OnOk result ((before : List Instr) → held.now ≡ map (cell before) addresses.now
+        → AreSameBut addresses.now before arena.now.core
         → events.new.items ≡ events.old.items ++ core_events core before arena.now.core) }
 {
     let mut from = 0;

@@ -30,8 +30,8 @@ pub(crate) struct Change {
     side: Side,
 }
 
-/// How a round of a match, counted from 0, ended, and why. It is played twice: to its end, and again up to its last turn, for who changed
-/// the cell last that its loser executed. No memory is taken.
+/// How a round of a match, counted from 0, ended, and why. It is played twice: to its end, and again up to its last
+/// turn, for who changed the cell last that its loser executed. No memory is taken.
 pub fn story_of<A: Allocator, B: Allocator, C: Allocator>(
     arena: &mut Arena<A>,
     older: &Warrior<B>,
@@ -135,7 +135,8 @@ fn next_turn<A: Allocator>(arena: &mut Arena<A>, side: Side, turn: u32) -> Optio
     requires { side ≡ arena.old.to_move }
     ensures after { arena.new ≡ after_turn arena.old }
     ensures round { IsRound arena.new }
-    ensures made { MatchOption result (is_over arena.old ≡ true) (λ made. (is_over arena.old ≡ false) × IsFront side arena.old turn made) }
+    ensures made { MatchOption result (is_over arena.old ≡ true)
+        (λ made. (is_over arena.old ≡ false) × IsFront side arena.old turn made) }
 {
     let front = front(arena, side, turn);
     let went = goes_on(arena);
@@ -182,7 +183,8 @@ fn writer<A: Allocator, B: Allocator, C: Allocator>(
     requires round { round < settings.now.rounds }
     requires least { 1 ≤ made.turn }
     requires on { is_over (round_before made.turn (begun settings.now older.now younger.now round)) ≡ false }
-    ensures writer { IsWriter (begun settings.now older.now younger.now round) older.now.code younger.now.code (position settings.now (seed_of_round settings.now round)) made.at made.turn result }
+    ensures writer { IsWriter (begun settings.now older.now younger.now round) older.now.code younger.now.code
+        (position settings.now (seed_of_round settings.now round)) made.at made.turn result }
     ensures settings { arena.new.settings ≡ arena.old.settings }
 {
     let place = begin(arena, older, younger, settings, round);
@@ -220,7 +222,8 @@ fn changed<A: Allocator>(
     earlier: Option<Change>,
 ) -> Option<Change>
     ensures after { arena.new ≡ after_turn arena.old }
-    ensures change { result ≡ if are_equal modifiers.I (cell arena.old.core at) (cell arena.new.core at) then earlier else Some this }
+    ensures change { result ≡ if are_equal modifiers.I (cell arena.old.core at) (cell arena.new.core at) then earlier
+        else Some this }
 {
     let before = held(arena, at);
     let _turned = arena.turn();
@@ -234,7 +237,8 @@ fn latest(is_same: bool, this: Change, earlier: Option<Change>) -> Option<Change
     if is_same { earlier } else { Some(this) }
 }
 
-/// Who changed a cell last, or whose instruction was loaded there if nobody did. The older warrior is at 0, the younger one at `place`.
+/// Who changed a cell last, or whose instruction was loaded there if no one did. The older warrior is at 0, the younger
+/// one at `place`.
 fn written<A: Allocator, B: Allocator>(
     change: Option<Change>,
     older: &Warrior<A>,

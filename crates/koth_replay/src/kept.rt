@@ -8,7 +8,8 @@ use mars_core::Outcome;
 use std::alloc::Allocator;
 use std::marker::Model;
 
-/// A round of a match: how it begins, the events of its turns, and how it ended. All that is kept takes memory once, when it is made.
+/// A round of a match: how it begins, the events of its turns, and how it ended. All that is kept takes memory once,
+/// when it is made.
 #[derive(Drop)]
 pub struct Replay<A: Allocator> {
     pub(crate) opening: Opening,
@@ -34,7 +35,8 @@ impl<A: Allocator> Replay<A> {
         self.opening
     }
 
-    /// What the warriors' cells hold when the round begins, each an `Event::Cell`, by their addresses. All other cells hold `DAT.F $0, $0`.
+    /// What the warriors' cells hold when the round begins, each an `Event::Cell`, by their addresses. All other cells
+    /// hold `DAT.F $0, $0`.
     pub fn loaded(&self) -> &[Event]
         ensures { result.now ≡ self.now.loaded }
     {
@@ -48,7 +50,8 @@ impl<A: Allocator> Replay<A> {
         self.turns.len()
     }
 
-    /// The events of a turn, counted from 0: that it begins, the cells that it changes, by their addresses, and the processes that it adds.
+    /// The events of a turn, counted from 0: that it begins, the cells that it changes, by their addresses, and the
+    /// processes that it adds.
     pub fn events_of(&self, turn: usize) -> &[Event]
         requires { turn < length self.now.turns }
         ensures { result.now ≡ slice_index_or self.now.turns turn [] }

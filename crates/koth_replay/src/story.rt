@@ -8,7 +8,7 @@ use war_types::Instr;
 pub enum Story {
     /// A side's last process ended, so the other side won.
     Fell(Fall),
-    /// Nobody won: the older warrior had this number of processes, then the younger one.
+    /// No one won: the older warrior had this number of processes, then the younger one.
     Tied(u32, u32),
 }
 
@@ -21,7 +21,7 @@ pub struct Fall {
     pub turn: u32,
     /// The address of the instruction that it executed in that turn.
     pub at: u16,
-    /// That instruction, as it stood there before the turn.
+    /// That instruction, as it was there before the turn.
     pub instr: Instr,
     /// Who changed that cell last before the turn.
     pub writer: Writer,
@@ -32,8 +32,8 @@ pub struct Fall {
 pub enum Writer {
     /// This side, in the turn of this number, counted from 1.
     Turn(Side, u32),
-    /// Nobody: the cell holds what the warrior of this side was loaded with.
+    /// No one: the cell holds what the warrior of this side was loaded with.
     Loaded(Side),
-    /// Nobody: nothing was loaded there either.
+    /// No one: nothing was loaded there either.
     Nobody,
 }

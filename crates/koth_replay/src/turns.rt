@@ -50,7 +50,8 @@ fn turn_events<A: Allocator + Copy, B: Allocator>(
     requires side { side ≡ arena.old.to_move }
     ensures after { arena.new ≡ after_turn arena.old }
     ensures round { IsRound arena.new }
-    ensures events { IfOk result (λ told. MatchOption told (is_over arena.old ≡ true) (λ events. (is_over arena.old ≡ false) × (events.items ≡ turn_events arena.old))) }
+    ensures events { IfOk result (λ told. MatchOption told (is_over arena.old ≡ true)
+        (λ events. (is_over arena.old ≡ false) × (events.items ≡ turn_events arena.old))) }
 {
     let front = arena.process(side, 0);
     let waiting = arena.processes(side);

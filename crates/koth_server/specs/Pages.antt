@@ -31,7 +31,8 @@ HasPage links hill Page.Hill = ⊤
 HasPage Links.Rounds hill (Page.Round older younger round) = HasRound hill older younger round
 HasPage Links.None hill (Page.Round older younger round) = ⊥
 
--- the text is the page of a round, counted from 1, of the match of the warriors with these entries on a hill, the older one first
+-- the text is the page of a round, counted from 1, of the match of the warriors with these entries on a hill, the older
+-- one first
 pub record IsRoundOf (hill : Kept) (older younger round : ℕ) (text : List ℕ) : Type 0 where
   pub rising : older < younger
   pub counted : has_round hill.settings round ≡ true

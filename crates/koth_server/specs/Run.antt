@@ -22,7 +22,8 @@ viewed asked usual = unwrap_or asked usual
 abbrev pub sight_in : List Row → Sight
 sight_in rows = record { matches = matches_in rows; settings = has_flag (codes "settings") rows; with_seed = has_flag (codes "with-seed") rows }
 
--- how a request's command ends under these settings, if it takes any, and if tables are in this view unless it asks for one
+-- how a request's command ends under these settings, if it takes any, and if tables are in this view unless it asks for
+-- one
 abbrev pub CommandEnds : RawSettings → View → Request → Status → Streams → Streams → Type 0
 CommandEnds settings view (Asm given source) status before after = EndsAsmFrom (is_input source) (settings_of settings) status before after
 CommandEnds settings view (Check given checked) status before after =
@@ -49,7 +50,8 @@ CommandEnds settings view (Reseed files) status before after = AfterNote (Ends M
 abbrev pub EndsRequestUnder : RawSettings → View → Request → Status → Streams → Streams → Type 0
 EndsRequestUnder settings view request status before after = CommandEnds settings view request status before after × (status ≢ Status.WordFault)
 
--- how a run ends that carried a request out: as its command does under the settings that it gives, and never as at a fault of the arguments
+-- how a run ends that carried a request out: as its command does under the settings that it gives, and never as at a
+-- fault of the arguments
 abbrev pub EndsRequest : View → Request → Status → Streams → Streams → Type 0
 EndsRequest view request status before after =
     EndsSettled (given_of request) (λ settings. CommandEnds settings view request status before after) status before after × (status ≢ Status.WordFault)
@@ -102,9 +104,9 @@ abbrev pub ReplayEnds : List Row → Result RawSettings SettingsFault → Status
 ReplayEnds rows settings status before after =
     ((watched : Watched) × AreWatched rows watched × EndsReplay watched.round (is_some watched.page) settings status before after) ⊎ LacksMemory status before after
 
--- How a run with these arguments ends, if tables are in this view unless the arguments ask for one: as the command that they name does, under
--- the settings that they give. Only wrong arguments end as a fault of the arguments, and then nothing is read, and nothing is written on the
--- output.
+-- How a run with these arguments ends, if tables are in this view unless the arguments ask for one: as the command that
+-- they name does, under the settings that they give. Only wrong arguments end as a fault of the arguments, and then
+-- nothing is read, and nothing is written on the output.
 pub record EndsRun (view : View) (given : List (List ℕ)) (status : Status) (before after : Streams) : Type 0 where
   pub asm : AsksFor view (codes "asm") given
       → EndsBy (given_by given) (λ s. EndsAsmFrom (reads_input given) (settings_of s) status before after) status before after

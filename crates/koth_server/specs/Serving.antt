@@ -16,7 +16,8 @@ Announces old new = (port : ℕ) × Appends old new (listening_line port)
 abbrev pub AnnouncesPart : Option (List ℕ) → Option (List ℕ) → Type 0
 AnnouncesPart old new = (port : ℕ) × WritesPart old new (listening_line port)
 
--- how a service ends: after its line, or with a fault, and then a part of that line may stand on the output; the log stands on standard error
+-- how a service ends: after its line, or with a fault, and then a part of that line may stand on the output; the log
+-- stands on standard error
 pub record TellsServeFault (status : Status) (before after : Streams) : Type 0 where
   pub trouble : Trouble
   pub of_hill : IsOfHill trouble
@@ -30,6 +31,7 @@ abbrev pub EndsService : Status → Streams → Streams → Type 0
 EndsService status before after =
     ((status ≡ Status.Done) × Announces before.output after.output × WritesSome before.errors after.errors) ⊎ TellsServeFault status before after
 
--- how `serve` ends: as a service under the settings that are given for a hill that it creates, with their refusal, or out of memory
+-- how `serve` ends: as a service under the settings that are given for a hill that it creates, with their refusal, or
+-- out of memory
 abbrev pub EndsServe : Result RawSettings SettingsFault → Status → Streams → Streams → Type 0
 EndsServe settings status before after = EndsGiven (λ s. EndsService) settings status before after

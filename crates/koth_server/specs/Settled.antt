@@ -4,13 +4,14 @@ use Rattle.{clap.specs.Words.{Row, first_of}, war_types.specs.{Settings.AreSetti
 use Rattle.koth_words.specs.{Settings.{base_in, chosen_in, given_as, over}, declared.settings.{Chosen.Chosen, Given.Given}}
 use Rattle.{koth_commands.specs.{Streams.Streams, Trouble.Tells, declared.{status.Status.Status, trouble.Trouble.Trouble}}, koth_files.specs.Trouble.IsOfHill}
 
--- these are the settings that are given: those of the preset or the default ones, or if a hill is named those of some hill, with what options
--- give in place of theirs
+-- these are the settings that are given: those of the preset or the default ones, or if a hill is named those of some
+-- hill, with what options give in place of theirs
 abbrev pub AreGiven : Bool → RawSettings → Chosen → RawSettings → Type 0
 AreGiven false base chosen settings = settings ≡ over base chosen
 AreGiven true base chosen settings = (hill : RawSettings) × AreSettings hill × (settings ≡ over (given_as hill) chosen)
 
--- the hill that is named can't be read: that was reported, nothing was read from the input, and nothing was written on the output
+-- the hill that is named can't be read: that was reported, nothing was read from the input, and nothing was written on
+-- the output
 pub record TellsNoHill (status : Status) (before after : Streams) : Type 0 where
   pub trouble : Trouble
   pub of_hill : IsOfHill trouble

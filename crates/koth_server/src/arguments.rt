@@ -16,8 +16,8 @@ const NO_TEXT: &str = "error: an argument is not UTF-8
 For more information, try '--help'.
 ";
 
-/// Reports the first argument that is not UTF-8, and returns how the program ends: its number, which is 1 for the first after the program's
-/// name, and its bytes as ASCII. If there is no such argument or no memory, neither is reported.
+/// Reports the first argument that is not UTF-8, and returns how the program ends: its number, which is 1 for the first
+/// after the program's name, and its bytes as ASCII. If there is no such argument or no memory, neither is reported.
 pub fn refuse_arguments<R: Env, A: Allocator + Copy, E: Write>(
     rt: &R,
     alloc: A,
@@ -58,7 +58,8 @@ fn text_within<R: Env, A: Allocator>(
     }
 }
 
-/// The number of the first argument that is not UTF-8, and how many bytes it has. These are then at the front of the buffer.
+/// The number of the first argument that is not UTF-8, and how many bytes it has. These are then at the front of the
+/// buffer.
 fn unreadable<R: Env>(rt: &R, buffer: &mut [u8]) -> Option<(usize, usize)>
     ensures { IfSome result (λ found. found.1 ≤ length buffer.new) }
 {

@@ -54,7 +54,12 @@ where
 {
     type Fault = Lost;
 
-    ghost shows = { λ host store. record { names = map (λ name. name.now) host.names.now; pages = λ page text. IsShown host.links store.hill page text; steps = host.steps } };
+    ghost shows = { λ host store. record {
+      names = map (λ name. name.now) host.names.now;
+      pages = λ page text.
+          IsShown host.links store.hill page text;
+      steps = host.steps;
+    } };
 
     /// The file is closed first, since it is locked while it is open. If another hill is in it then, that isn't opened.
     fn reopen(&self, device: HillFile<'f, R>) -> Result<HillStore<'f, R, A>, Lost> {

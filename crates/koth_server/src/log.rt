@@ -1,4 +1,5 @@
-//! What a service reports while it runs: its connections, its submissions, requests of browsers and its faults, each with the time.
+//! What a service reports while it runs: its connections, its submissions, requests of browsers and its faults, each
+//! with the time.
 
 ghost use Rattle.koth_commands.specs.Told.{WritesSome};
 
@@ -17,7 +18,8 @@ use std::rt::Clock;
 /// Bytes of the first line of a request that a line of the log has at most.
 const SHOWN: usize = 200;
 
-/// The log of a service. A line that can't be written at once is dropped, and the next one that can is preceded by how many were.
+/// The log of a service. A line that can't be written at once is dropped, and the next one that can is preceded by how
+/// many were.
 #[derive(Drop)]
 pub struct Log<'r, R> {
     clock: &'r R,
@@ -52,7 +54,8 @@ impl<'r, R: Clock> Log<'r, R> {
         self.put(alloc, self.line(alloc, peer, event), errors);
     }
 
-    /// Reports that the hill of a service was created, and what its seed means if everybody knows that, unless the log is quiet.
+    /// Reports that the hill of a service was created, and what its seed means if everybody knows that, unless the log
+    /// is quiet.
     pub(crate) fn tell_created<A: Allocator + Copy, E: LogWrite>(
         &self,
         alloc: A,
@@ -123,7 +126,8 @@ impl<'r, R: Clock> Log<'r, R> {
         self.put_count(alloc, errors) && put_line(line, errors)
     }
 
-    /// Writes how many lines were dropped, if some were. It returns whether that is written, or there is nothing to write.
+    /// Writes how many lines were dropped, if some were. It returns whether that is written, or there is nothing to
+    /// write.
     fn put_count<A: Allocator, E: LogWrite>(&self, alloc: A, errors: &mut E) -> bool
         ensures { WritesSome (E.contents errors.old) (E.contents errors.new) }
     {

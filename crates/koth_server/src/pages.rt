@@ -19,15 +19,16 @@ pub(crate) fn links_for(replays: bool) -> Links
     if replays { Links::Rounds } else { Links::None }
 }
 
-/// The text of a page of a store's hill, or none if the hill has no such page. Without links to rounds it has no page of a round. `AllocError`
-/// comes if memory ran out.
+/// The text of a page of a store's hill, or none if the hill has no such page. Without links to rounds it has no page
+/// of a round. `AllocError` comes if memory ran out.
 pub(crate) fn page_shown<D: Device, A: Allocator + Copy>(
     alloc: A,
     store: &Store<D, A>,
     page: Page,
     links: Links,
 ) -> Result<Option<Vec<u8, A>>, AllocError>
-    ensures { IfOk result (λ found. MatchOption found (¬ (HasPage links store.now.hill page)) (λ text. IsShown links store.now.hill page text.items)) }
+    ensures { IfOk result (λ found. MatchOption found (¬ (HasPage links store.now.hill page))
+        (λ text. IsShown links store.now.hill page text.items)) }
 {
     match (page, links) {
         (Page::Hill, _) => Ok(Some(hill_page(alloc, store.hill(), links)?)),
@@ -43,7 +44,8 @@ pub(crate) fn page_shown<D: Device, A: Allocator + Copy>(
     }
 }
 
-/// The page of a round, counted from 1, of the match of the warriors with these entries, or none if the hill has no such round.
+/// The page of a round, counted from 1, of the match of the warriors with these entries, or none if the hill has no
+/// such round.
 fn round_shown<A: Allocator + Copy>(
     alloc: A,
     hill: &Hill<A>,
@@ -51,7 +53,8 @@ fn round_shown<A: Allocator + Copy>(
     younger: u64,
     round: u32,
 ) -> Result<Option<Vec<u8, A>>, AllocError>
-    ensures { IfOk result (λ found. MatchOption found (¬ (HasRound hill.now older younger round)) (λ text. IsRoundOf hill.now older younger round text.items)) }
+    ensures { IfOk result (λ found. MatchOption found (¬ (HasRound hill.now older younger round))
+        (λ text. IsRoundOf hill.now older younger round text.items)) }
 {
     let settings = hill.settings();
     if older >= younger || !has_round(settings, round) {

@@ -27,9 +27,10 @@ use war_types::RawSettings;
 /// What is written of arguments that are wrong if there is no memory to say why.
 const UNSHOWN: &[u8] = b"error: the arguments are wrong, and there is no memory to say why\n";
 
-/// Does what the arguments ask for, and returns the exit status: 0 done, 1 refused, 2 wrong arguments, 3 a stream or a file failed, 4 out of
-/// memory. The first of `words` is the program's name. They are parsed on `heap`, and all other memory comes from `alloc`. If the arguments
-/// don't say how tables are laid out, they are in `view`: columns for a terminal, and else lines for programs.
+/// Does what the arguments ask for, and returns the exit status: 0 done, 1 refused, 2 wrong arguments, 3 a stream or a
+/// file failed, 4 out of memory. The first of `words` is the program's name. They are parsed on `heap`, and all other
+/// memory comes from `alloc`. If the arguments don't say how tables are laid out, they are in `view`: columns for a
+/// terminal, and else lines for programs.
 pub fn run<
     R: Files + Net + Clock + RandomSource,
     A: Allocator + Copy,
@@ -192,7 +193,7 @@ where
     deliver(alloc, done, lasts(request), output, errors)
 }
 
-/// Whether what a request's command does stays, so that it is reported also if nobody reads the answer.
+/// Whether what a request's command does stays, so that it is reported also if no one reads the answer.
 fn lasts(request: &Request<'_>) -> bool {
     matches!(
         *request,
@@ -229,7 +230,8 @@ fn answer_without<A: Allocator, O: Write, E: Write>(
     }
 }
 
-/// Writes what is wrong with the arguments. They may be names of files, so nothing that a terminal acts upon is written of them.
+/// Writes what is wrong with the arguments. They may be names of files, so nothing that a terminal acts upon is written
+/// of them.
 fn tell_fault<E: Write>(heap: Global, text: &str, errors: &mut E) {
     let _ = match lines_text(heap, text) {
         Ok(shown) => write_whole(errors, shown.as_slice()),

@@ -22,13 +22,14 @@ use std::net::Net;
 use std::rt::{Clock, Files};
 use war_types::{RawSettings, Settings};
 
-/// Serves sessions on the hill in a file over connections to an address and a port, `peers` at once at most, and `peers_per_address` of one
-/// address if that is given, and ends after `connections` sessions if that is given. It assembles no source in more than `steps` steps. The
-/// line `LISTENING port` says that peers may connect, and to which port if the system chooses it. What happens is written on standard error,
-/// unless the service is quiet, and so is where browsers see the hill, if they may.
+/// Serves sessions on the hill in a file over connections to an address and a port, `peers` at once at most, and
+/// `peers_per_address` of one address if that is given, and ends after `connections` sessions if that is given. It
+/// assembles no source in more than `steps` steps. The line `LISTENING port` says that peers may connect, and to which
+/// port if the system chooses it. What happens is written on standard error, unless the service is quiet, and so is
+/// where browsers see the hill, if they may.
 ///
-/// If that is asked for and there is no file, the hill is created first, with these settings. Settings that are out of their ranges are
-/// refused before the file is touched.
+/// If that is asked for and there is no file, the hill is created first, with these settings. Settings that are out of
+/// their ranges are refused before the file is touched.
 pub(crate) fn serve<'f, R: Files + Net + Clock, A: Allocator + Copy, O: Write, E: LogWrite>(
     rt: &'f R,
     alloc: A,
@@ -118,8 +119,8 @@ where
     }
 }
 
-/// The hill in the file. If that is asked for and the file holds nothing, the hill is created there, and that is reported, with what the
-/// default seed means.
+/// The hill in the file. If that is asked for and the file holds nothing, the hill is created there, and that is
+/// reported, with what the default seed means.
 fn hill_served<'f, R: Files + Clock, A: Allocator + Copy, E: LogWrite>(
     host: &Hosting<'f, R, A>,
     settings: Settings,

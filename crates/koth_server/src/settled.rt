@@ -10,7 +10,8 @@ use std::alloc::Allocator;
 use std::rt::Files;
 use war_types::RawSettings;
 
-/// The settings that a request gives; the default ones if it gives none. If it names a hill, that is looked at, and nothing is written to it.
+/// The settings that a request gives; the default ones if it gives none. If it names a hill, that is looked at, and
+/// nothing is written to it.
 pub(crate) fn settled<'g, R: Files, A: Allocator + Copy>(
     rt: &'g R,
     alloc: A,

@@ -9,8 +9,9 @@ use std::io::{ErrorKind, Read, Write};
 /// What is written before a terminal is read.
 const HINT: &[u8] = b"reading from standard input; Ctrl-D ends it\n";
 
-/// An input that may be a terminal. If it is one, the first read is reported before it begins, since it waits for somebody who types. An input
-/// that is a folder is told as one that isn't connected: the program has a folder in the place of a closed one.
+/// An input that may be a terminal. If it is one, the first read is reported before it begins, since it waits for
+/// somebody who types. An input that is a folder is told as one that isn't connected: the program has a folder in the
+/// place of a closed one.
 #[derive(Drop)]
 pub struct Typed<I, E> {
     input: I,

@@ -9,7 +9,8 @@ no_tally = record { won = 0; lost = 0; tied = 0 }
 abbrev pub kept_of_two : Kept → ℕ → ℕ → Bout
 kept_of_two k older younger = or_no_rounds (result_of (entries_of k.members) k.results older younger)
 
--- the rounds of one entry in its match against another: the earlier entry is the older warrior, and nobody fights itself
+-- the rounds of one entry in its match against another: the earlier entry is the older warrior, and nobody fights
+-- itself
 abbrev pub between : Kept → ℕ → ℕ → Tally
 between k one other =
     if nat_lt one other then of_older (kept_of_two k one other) else (

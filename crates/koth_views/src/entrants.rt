@@ -1,4 +1,4 @@
-//! Who stands on a hill.
+//! Who is on a hill.
 
 ghost use Rattle.std.specs.Prelude.{◌≡◌, IfOk};
 ghost use Rattle.{koth_hill.specs.Rows.{row_parts, rows_parts}, koth_views.specs.Roster.{entered_of, roster, roster_of}};
@@ -8,7 +8,7 @@ use koth_text::Line;
 use koth_text::cells::named;
 use std::alloc::{AllocError, Allocator};
 
-/// A warrior that stands on a hill, or stood there.
+/// A warrior that is on a hill, or stood there.
 #[derive(Drop)]
 pub struct Entered {
     /// The number of its entry, from 1 on.

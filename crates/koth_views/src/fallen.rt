@@ -69,7 +69,7 @@ fn told_text<A: Allocator + Copy, B: Allocator>(
     Ok(text)
 }
 
-/// The matches of a challenger with all on the hill, by their results, which stand by the rising entries of these: each
+/// The matches of a challenger with all on the hill, by their results, which are by the rising entries of these: each
 /// by the rank of the opponent, with the rounds that the challenger won, lost and tied. No match is fought. The error
 /// is lack of memory.
 pub fn challenged_view<A: Allocator + Copy, B: Allocator>(
@@ -131,7 +131,7 @@ fn challenged_cells<A: Allocator, B: Allocator>(
 }
 
 /// The least points of those that stay when a challenger falls, against all others on the hill and against the
-/// challenger, by the results of its matches with all on the hill, by their rising entries; `None` if nobody is on it.
+/// challenger, by the results of its matches with all on the hill, by their rising entries; `None` if no one is on it.
 /// The error is lack of memory.
 pub fn least_of<A: Allocator + Copy, B: Allocator>(
     alloc: A,

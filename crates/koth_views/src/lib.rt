@@ -1,7 +1,7 @@
 //! Texts for people: a hill, its matches, one match and a submission, in headings and columns.
 //!
-//! It knows a hill with the results that it keeps, and no store, files or terminals. The modules, in the order in which the data
-//! pass:
+//! It knows a hill with the results that it keeps, and no store, files or terminals. The modules, in the order in which
+//! the data pass:
 //!
 //! - `tally`: rounds that one entry won, lost and tied, which a page shows too;
 //! - `standing`: the table of a hill; `matrix`: its matches;
@@ -10,8 +10,8 @@
 //!
 //! Cells, columns and the counts of one match are `koth_text`'s, and this crate passes `bout_view` on.
 //!
-//! Each text is exactly what its definition in `specs` makes of the hill. Programs read the lines of `koth_protocol`, and none of
-//! these.
+//! Each text is exactly what its definition in `specs` makes of the hill. Programs read the lines of `koth_protocol`,
+//! and none of these.
 #![tactic(auto)]
 
 mod entrants;

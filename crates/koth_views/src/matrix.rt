@@ -14,9 +14,10 @@ use std::alloc::{AllocError, Allocator};
 /// The sides of the first two columns. The columns of rounds after them are aligned at the right.
 const SIDES: [Alignment; 2] = [Alignment::Right, Alignment::Left];
 
-/// The matches on a hill with headings: a line for each warrior by rank with its name, and a column for each warrior by rank. A cell
-/// has the rounds that the line's warrior won, lost and tied against the column's, as `45-10-7`, and a dot if the two are one. A hill
-/// without warriors has the line `no warriors yet` alone. No match is fought. The error is lack of memory.
+/// The matches on a hill with headings: a line for each warrior by rank with its name, and a column for each warrior by
+/// rank. A cell has the rounds that the line's warrior won, lost and tied against the column's, as `45-10-7`, and a dot
+/// if the two are one. A hill without warriors has the line `no warriors yet` alone. No match is fought. The error is
+/// lack of memory.
 pub fn matches_view<A: Allocator + Copy, B: Allocator>(
     alloc: A,
     hill: &Hill<B>,
@@ -48,7 +49,8 @@ fn push_rows<A: Allocator + Copy, B: Allocator>(
     hill: &Hill<B>,
     rows: &[Row<'_>],
 ) -> Result<(), AllocError>
-    ensures { OnOk result (lines.new.items ≡ lines.old.items ++ matrix_rows hill.now (rows_parts rows.now) (rows_parts rows.now)) }
+    ensures { OnOk result (lines.new.items ≡ lines.old.items
+        ++ matrix_rows hill.now (rows_parts rows.now) (rows_parts rows.now)) }
 {
     for place in 0..rows.len() {
         lines.push(cells_of(alloc, hill, rows, place as u64 + 1, &rows[place])?)?;

@@ -25,9 +25,9 @@ pub struct Place {
     pub score: u32,
 }
 
-/// What became of a warrior that was placed: its entry, rank and points; a line for each of `before`, the hill's `roster` from before it, that
-/// isn't on the hill any more; and its matches by the rank of the opponent, each with the rounds that it won, lost and tied. `hill` is the hill
-/// after it. No match is fought. The error is lack of memory.
+/// What became of a warrior that was placed: its entry, rank and points; a line for each of `before`, the hill's
+/// `roster` from before it, that isn't on the hill any more; and its matches by the rank of the opponent, each with the
+/// rounds that it won, lost and tied. `hill` is the hill after it. No match is fought. The error is lack of memory.
 pub fn placed_text<A: Allocator + Copy, B: Allocator>(
     alloc: A,
     before: &[Entered],
@@ -231,7 +231,8 @@ fn push_opponents<A: Allocator + Copy, B: Allocator>(
     entry: u64,
     rows: &[Row<'_>],
 ) -> Result<(), AllocError>
-    ensures { OnOk result (lines.new.items ≡ lines.old.items ++ flat_map (opponent_cells hill.now entry) (rows_parts rows.now)) }
+    ensures { OnOk result (lines.new.items ≡ lines.old.items
+        ++ flat_map (opponent_cells hill.now entry) (rows_parts rows.now)) }
 {
     for i in 0..rows.len() {
         push_opponent(alloc, lines, hill, entry, &rows[i])?;

@@ -22,9 +22,9 @@ const SIDES: [Alignment; 9] = [
     Alignment::Left,
 ];
 
-/// The table of a hill with headings: a line for each warrior by rank, with its entry, its points, the rounds that it won, lost
-/// and tied against all others on the hill, its age, its name and its author. A hill without warriors has the line
-/// `no warriors yet` alone. No match is fought. The error is lack of memory.
+/// The table of a hill with headings: a line for each warrior by rank, with its entry, its points, the rounds that it
+/// won, lost and tied against all others on the hill, its age, its name and its author. A hill without warriors has the
+/// line `no warriors yet` alone. No match is fought. The error is lack of memory.
 pub fn hill_view<A: Allocator + Copy, B: Allocator>(
     alloc: A,
     hill: &Hill<B>,
@@ -52,7 +52,7 @@ fn standing_text<A: Allocator + Copy, B: Allocator>(
     }
 }
 
-/// Lines in columns, and what stands under a table of these rows.
+/// Lines in columns, and what is under a table of these rows.
 pub(crate) fn noted_text<A: Allocator + Copy>(
     alloc: A,
     sides: &[Alignment],
@@ -71,7 +71,7 @@ pub(crate) fn noted_text<A: Allocator + Copy>(
     }
 }
 
-/// What stands under the table of these rows.
+/// What is under the table of these rows.
 fn note_of_none(rows: &[Row<'_>]) -> &'static [u8]
     ensures { result.now ≡ note_of_none (rows_parts rows.now) }
 {
@@ -88,7 +88,8 @@ fn push_lines<A: Allocator + Copy, B: Allocator>(
     hill: &Hill<B>,
     rows: &[Row<'_>],
 ) -> Result<(), AllocError>
-    ensures { OnOk result (lines.new.items ≡ lines.old.items ++ hill_heading ∷ hill_rows hill.now (rows_parts rows.now)) }
+    ensures { OnOk result (lines.new.items ≡ lines.old.items ++ hill_heading
+        ∷ hill_rows hill.now (rows_parts rows.now)) }
 {
     lines.push(heading(alloc)?)?;
     push_rows(alloc, lines, hill, rows)

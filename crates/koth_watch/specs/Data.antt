@@ -7,7 +7,8 @@ abbrev pub side_text : Side → List ℕ
 side_text Side.First = codes "0"
 side_text Side.Second = codes "1"
 
--- a turn by its side and the address that it executes, a cell by its address and what it holds now, a process by its address
+-- a turn by its side and the address that it executes, a cell by its address and what it holds now, a process by its
+-- address
 unfoldable pub turn_text : Side → ℕ → List ℕ
 turn_text side at = codes "[" ++ side_text side ++ codes "," ++ decimal at ++ codes "]"
 

@@ -25,7 +25,7 @@ pub(crate) fn put_data<A: Allocator, B: Allocator>(
     page.extend_from_slice(b"]}\n")
 }
 
-/// Puts what stands before the turns.
+/// Puts what is before the turns.
 fn put_start<A: Allocator>(
     page: &mut Vec<u8, A>,
     opening: Opening,
@@ -122,7 +122,8 @@ fn put_each<A: Allocator>(
     core: u16,
     events: &[Event],
 ) -> Result<(), AllocError>
-    ensures { OnOk result (page.new.items ≡ page.old.items ++ flat_map (λ (place, event). event_at core place event) (enumerate_from 0 events.now)) }
+    ensures { OnOk result (page.new.items ≡ page.old.items
+        ++ flat_map (λ (place, event). event_at core place event) (enumerate_from 0 events.now)) }
 {
     for place in 0..events.len() {
         put_event_at(page, core, place, events[place])?;
@@ -181,7 +182,7 @@ fn put_cell<A: Allocator>(
     page.extend_from_slice(b"\"]")
 }
 
-/// What stands before the instruction of a cell.
+/// What is before the instruction of a cell.
 fn cell_start(at: u16) -> Line
     ensures { result ≡ codes "[" ++ decimal at ++ codes ",\"" }
 {

@@ -39,7 +39,8 @@ fn put_operand<A: Allocator>(
     put_signed(page, core, number)
 }
 
-/// Puts the number nearest to 0 that is equal to this one modulo the size of the core; of two as near, the positive one.
+/// Puts the number nearest to 0 that is equal to this one modulo the size of the core; of two as near, the positive
+/// one.
 pub(crate) fn put_signed<A: Allocator>(
     page: &mut Vec<u8, A>,
     core: u16,
@@ -55,7 +56,7 @@ pub(crate) fn put_signed<A: Allocator>(
     }
 }
 
-/// The sign of a mode. A `<` goes by its number, since the data stand in an element that `</script>` would end.
+/// The sign of a mode. A `<` goes by its number, since the data are in an element that `</script>` would end.
 fn sign_text(mode: Mode) -> &'static str
     ensures { result.now ≡ sign_text mode }
 {

@@ -13,8 +13,9 @@ use koth_replay::Replay;
 use std::alloc::{AllocError, Allocator};
 use war_types::Warrior;
 
-/// The page of a round of two warriors: who fights whom, how it ended, and why, and its turns, to be watched one by one. It is HTML in ASCII
-/// that loads nothing. What is drawn are the events of the replay, and the page has them all. The error is lack of memory.
+/// The page of a round of two warriors: who fights whom, how it ended, and why, and its turns, to be watched one by
+/// one. It is HTML in ASCII that loads nothing. What is drawn are the events of the replay, and the page has them all.
+/// The error is lack of memory.
 pub fn round_page<A: Allocator, B: Allocator, C: Allocator, D: Allocator>(
     alloc: A,
     older: &Warrior<B>,
@@ -24,11 +25,13 @@ pub fn round_page<A: Allocator, B: Allocator, C: Allocator, D: Allocator>(
 ) -> Result<Vec<u8, A>, AllocError>
     ensures page { IfOk result (λ page. page.items ≡ round_page older.now younger.now told.now replay.now) }
 
-    // Nothing of the data ends the element that they stand in.
+    // Nothing of the data ends the element that they are in.
     ensures contained { IsTrue (list_all is_data_byte (data_text replay.now)) }
 
-    // The page has all that begins or ends a tag or the value of an attribute which it would have if nobody had a name, and no more.
-    ensures markup { IfOk result (λ page. markup_of page.items ≡ markup_of (round_page (unnamed older.now) (unnamed younger.now) told.now replay.now)) }
+    // The page has all that begins or ends a tag or the value of an attribute which it would have if no one had a name,
+    // and no more.
+    ensures markup { IfOk result (λ page. markup_of page.items
+        ≡ markup_of (round_page (unnamed older.now) (unnamed younger.now) told.now replay.now)) }
     ensures ascii { IfOk result (λ page. IsTrue (list_all is_page_byte page.items)) }
 {
     page_of(alloc, older, younger, told, replay)

@@ -8,7 +8,7 @@ pub(crate) const HEAD: &[u8] = b"<!DOCTYPE html>
 <meta name=\"viewport\" content=\"width=device-width, initial-scale=1\">
 <title>";
 
-/// From the title to the heading. The style sheet stands here.
+/// From the title to the heading. The style sheet is here.
 pub(crate) const STYLE: &[u8] = b"</title>
 <style>
 :root { color-scheme: light dark; --page: #fcfbf8; --text: #22211e; --quiet: #66645d; --line: #dad7ce; --band: #f3f1ea; --blank: #eceae2;

@@ -176,7 +176,7 @@ fn put_loaded<A: Allocator>(
     text.extend_from_slice(b" was loaded")
 }
 
-/// Puts that nobody won, and how many processes the sides had.
+/// Puts that no one won, and how many processes the sides had.
 fn put_tie<A: Allocator, B: Allocator, C: Allocator>(
     text: &mut Vec<u8, A>,
     form: Form,
@@ -186,7 +186,8 @@ fn put_tie<A: Allocator, B: Allocator, C: Allocator>(
     first: u32,
     second: u32,
 ) -> Result<(), AllocError>
-    ensures { OnOk result (text.new.items ≡ text.old.items ++ tie_text form older.now younger.now told.now first second) }
+    ensures { OnOk result (text.new.items ≡ text.old.items
+        ++ tie_text form older.now younger.now told.now first second) }
 {
     let older_name = name_of(Side::First, older, younger);
     let younger_name = name_of(Side::Second, older, younger);

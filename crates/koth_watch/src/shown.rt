@@ -10,7 +10,7 @@ use redcode_text::{mode_text, modifier_text, op_text};
 use std::alloc::{AllocError, Allocator};
 use war_types::{Instr, Mode};
 
-/// Where a sentence stands.
+/// Where a sentence is.
 #[derive(Clone, Copy)]
 pub enum Form {
     /// In a text for people.

@@ -11,7 +11,8 @@ use std::process::Abort;
 use tests_fixtures::{DIE, IMP, Instr, RawSettings, Refusing, SMALL, STAY, small};
 use war_types::Settings;
 
-/// How a turn and a round go in a new arena, its first cell, its last one and what is after it, and the processes of both sides.
+/// How a turn and a round go in a new arena, its first cell, its last one and what is after it, and the processes of
+/// both sides.
 fn fresh(
     rt: &impl Abort,
     memory: &Refusing<Global>,
@@ -41,7 +42,8 @@ fn a_fresh_arena(rt: HostRuntime) {
     expect_same(&rt, &processes, &[0, 0], "its processes");
 }
 
-/// The ties of two matches of one that goes on and one that stays, and then a round of these begins, the second of them loaded at 0.
+/// The ties of two matches of one that goes on and one that stays, and then a round of these begins, the second of them
+/// loaded at 0.
 fn fight_and_begin(
     rt: &impl Abort,
     memory: &Refusing<Global>,
@@ -79,8 +81,8 @@ fn left_over(arena: &Arena<&Refusing<Global>>, core: u16, cells: [(u16, Instr); 
     None
 }
 
-/// The ties of two matches in an arena, the first cell that isn't as the round after them begins, and how this round ends. The arena's memory is refused
-/// once it is made, and the warriors are in `calm`.
+/// The ties of two matches in an arena, the first cell that isn't as the round after them begins, and how this round
+/// ends. The arena's memory is refused once it is made, and the warriors are in `calm`.
 fn fought(
     rt: &impl Abort,
     calm: &Refusing<Global>,

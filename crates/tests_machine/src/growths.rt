@@ -97,7 +97,8 @@ fn is_given(
     }
 }
 
-/// How many growths a call of this name has. Each of them is refused in turn, and then the call gives nothing. With memory it gives what is due.
+/// How many growths a call of this name has. Each of them is refused in turn, and then the call gives nothing. With
+/// memory it gives what is due.
 fn growths_of(
     rt: &impl Abort,
     calm: &Refusing<Global>,

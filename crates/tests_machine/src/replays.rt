@@ -22,7 +22,8 @@ fn kept_of(found: Result<Replay<&Refusing<Global>>, AllocError>) -> Option<Kept>
     }
 }
 
-/// The same of a round of one that loses at once and one that stays, with `most` turns kept at most, if there is memory for it. All else is in `calm`.
+/// The same of a round of one that loses at once and one that stays, with `most` turns kept at most, if there is memory
+/// for it. All else is in `calm`.
 pub(crate) fn replayed(
     rt: &impl Abort,
     calm: &Refusing<Global>,

@@ -67,7 +67,8 @@ fn check_challenger(
     expect_same(rt, &both.0, &both.1, "what is told");
 }
 
-/// Cycles and rounds, the steps of a challenge on a hill of two, and its results: those that the older won, that the younger won, and ties.
+/// Cycles and rounds, the steps of a challenge on a hill of two, and its results: those that the older won, that the
+/// younger won, and ties.
 type Steps = (u32, u32, u32, Counts, Counts);
 
 type Counts = (u16, u16, u16);
@@ -99,7 +100,8 @@ static STEPS: [Steps; 4] = [
     (500_000, 3, 5, (1, 2, 0), (3, 0, 0)),
 ];
 
-/// Of two that lose at once the one that moves first loses. A step has 1,000,000 cycles of each side at most, and the last one only judges.
+/// Of two that lose at once the one that moves first loses. A step has 1,000,000 cycles of each side at most, and the
+/// last one only judges.
 #[test]
 fn a_challenge_in_steps(rt: HostRuntime) {
     let memory = Refusing::new(rt.alloc());

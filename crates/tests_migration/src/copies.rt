@@ -8,8 +8,8 @@ use std::alloc::Allocator;
 use std::process::Abort;
 use tests_stores::{SECTORS, SMALL, TWO, TestMemory, Trial, copy, lasting, run, submit};
 
-/// Calls of the new device when a hill of two warriors is copied: a sync and both headers, four sectors of each warrior, a sync, a header, a
-/// sync.
+/// Calls of the new device when a hill of two warriors is copied: a sync and both headers, four sectors of each
+/// warrior, a sync, a header, a sync.
 const COPYING: u64 = 3 + 8 + 3;
 
 /// A store of a hill with two warriors, on this device.
@@ -49,7 +49,8 @@ fn expect_copied<D: Device, S: Device, N: Device, A: Allocator>(
     expect_same(rt, &found, &due, "three copies");
 }
 
-/// A copy is made though each growth of the store's memory is refused, and it asks for none. The devices are in other memory.
+/// A copy is made though each growth of the store's memory is refused, and it asks for none. The devices are in other
+/// memory.
 fn expect_copied_without<M: TestMemory>(rt: &impl Abort, memory: M, disks: M) {
     let store = two_on(rt, memory, new_in(rt, disks));
     let mut small = lasting(disks, blank_of(rt, disks, SECTORS - 1));

@@ -6,8 +6,8 @@ use hill_store::{MigrateFault, Refusal};
 use std::process::Abort;
 use tests_stores::{TestMemory, Trial, migrate, refused, run};
 
-/// An arena takes four growths, the members one and the codes of two warriors two, to open the hill. The eight sectors of their slots and a
-/// header's take one each in the new device.
+/// An arena takes four growths, the members one and the codes of two warriors two, to open the hill. The eight sectors
+/// of their slots and a header's take one each in the new device.
 fn fault_at(k: u64) -> Option<MigrateFault> {
     match k {
         0..=6 => Some(refused!(Old, Refusal::Memory)),

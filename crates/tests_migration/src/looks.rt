@@ -29,7 +29,7 @@ fn one_on<M: TestMemory>(rt: &impl Abort, memory: M) -> M::Disk {
     memory.within(close(store))
 }
 
-/// What stands on the disk if another warrior is placed and the device stops after `calls` of these calls.
+/// What is on the disk if another warrior is placed and the device stops after `calls` of these calls.
 fn stopped_at<M: TestMemory>(rt: &impl Abort, memory: M, disk: &M::Disk, calls: u64) -> M::Disk {
     let copy = image_of(rt, disk, &[]);
     let fuse = memory.failing(copy, OPENING.saturating_add(calls), FuseKind::Stop);
@@ -130,8 +130,8 @@ fn expect_failed<D: Device + Drop, A: Allocator + Copy>(
     expect_same(rt, &found, &(due, fails_at, 1), "a look");
 }
 
-/// Growth `k` of the seven of a look is refused, or there is no such growth. One that is refused is `Memory`: the sectors, the members, an
-/// arena's four, and a warrior's code.
+/// Growth `k` of the seven of a look is refused, or there is no such growth. One that is refused is `Memory`: the
+/// sectors, the members, an arena's four, and a warrior's code.
 fn expect_growth<M: TestMemory>(
     rt: &impl Abort,
     memory: M,

@@ -9,9 +9,9 @@ use tests_stores::{
     submit,
 };
 
-/// The old device is asked for a sync, two headers and two sectors of each slot. The new one is asked for a sync, two headers, four sectors
-/// of each slot, a sync, a header and a sync, and then for what a warrior that falls makes. It is answered at once, as on a hill that was
-/// opened.
+/// The old device is asked for a sync, two headers and two sectors of each slot. The new one is asked for a sync, two
+/// headers, four sectors of each slot, a sync, a header and a sync, and then for what a warrior that falls makes. It is
+/// answered at once, as on a hill that was opened.
 fn expect_calls<M: TestMemory>(rt: &impl Abort, memory: M) {
     let moved = moved(memory, old_in(rt, memory), new_in(rt, memory));
     let (old, mut store) = moved.expect(rt, "it is moved");

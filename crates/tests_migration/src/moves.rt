@@ -7,10 +7,12 @@ use sector_disk::FuseKind;
 use std::process::Abort;
 use tests_stores::{SECTORS, TestMemory, Trial, lasting, migrate, run, tried};
 
-/// Calls of the new device: a sync, two headers, four sectors for each of two slots, a sync, the header in sector 1, and a sync.
+/// Calls of the new device: a sync, two headers, four sectors for each of two slots, a sync, the header in sector 1,
+/// and a sync.
 const CALLS: u64 = 14;
 
-/// Whether a new device that stopped after `calls` calls holds the hill: without the header that is written and not synced, and with it.
+/// Whether a new device that stopped after `calls` calls holds the hill: without the header that is written and not
+/// synced, and with it.
 fn due(calls: u64) -> (bool, bool) {
     match calls {
         0..=12 => (false, false),
@@ -30,7 +32,8 @@ fn holds_the_hill<M: TestMemory>(rt: &impl Abort, memory: M, disk: M::Disk) -> b
     }
 }
 
-/// How many images there are of what is written and not synced after `calls` calls: up to eight sectors of slots, or a header.
+/// How many images there are of what is written and not synced after `calls` calls: up to eight sectors of slots, or a
+/// header.
 fn images_of(calls: u64) -> u32 {
     match calls {
         4..=11 => 1 << (calls - 3),
@@ -39,7 +42,8 @@ fn images_of(calls: u64) -> u32 {
     }
 }
 
-/// Keeps or loses each of the sectors 2 to 9, which are written first, and the header in sector 1, which is written after their sync.
+/// Keeps or loses each of the sectors 2 to 9, which are written first, and the header in sector 1, which is written
+/// after their sync.
 fn choice_of(kept: u32) -> [u32; 10] {
     let first = [kept % 2, kept / 2 % 2, kept / 4 % 2, kept / 8 % 2];
     let second = [kept / 16 % 2, kept / 32 % 2, kept / 64 % 2, kept / 128 % 2];
@@ -76,8 +80,8 @@ fn expect_goes_on<M: TestMemory>(rt: &impl Abort, memory: M, old: M::Device, new
     }
 }
 
-/// What is left if the new device fails so after `calls` calls, and `made` were made. The old one still holds the hill, which can be moved
-/// to a blank one.
+/// What is left if the new device fails so after `calls` calls, and `made` were made. The old one still holds the hill,
+/// which can be moved to a blank one.
 fn expect_left<M: TestMemory>(rt: &impl Abort, memory: M, calls: u64, kind: FuseKind, made: u64) {
     let new = memory.failing(blank_of(rt, memory, SECTORS), calls, kind);
     let (old, new, fault) = tried(memory, old_in(rt, memory), new);

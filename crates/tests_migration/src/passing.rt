@@ -17,8 +17,8 @@ pub(crate) enum Goes {
     Round,
 }
 
-/// The sectors of the first device for `every` reads, then for as many those of the next one, and so on. One read fails, if any: it counts
-/// them from 1 on. It is lawful in no contract.
+/// The sectors of the first device for `every` reads, then for as many those of the next one, and so on. One read
+/// fails, if any: it counts them from 1 on. It is lawful in no contract.
 #[derive(Drop)]
 pub(crate) struct Passing<D: Device + Drop, A: Allocator + Copy> {
     pub devices: Vec<D, A>,

@@ -42,8 +42,8 @@ fn expect_occupied<M: TestMemory>(rt: &impl Abort, memory: M, n: u32) {
     expect_same(rt, &(n, refusal), &(n, due), "a header and a refusal");
 }
 
-/// New devices that are refused: one that is too small, and those that a hill occupies. Of a hill in the old format, one header in its
-/// sector is enough.
+/// New devices that are refused: one that is too small, and those that a hill occupies. Of a hill in the old format,
+/// one header in its sector is enough.
 fn expect_no_new<M: TestMemory>(rt: &impl Abort, memory: M) {
     let small = blank_of(rt, memory, SECTORS - 1);
     expect_new_refused(rt, memory, small, Refusal::TooSmall);

@@ -1,8 +1,8 @@
 //! What a stop leaves of a hill of twenty, with the results of all its pairs, that is moved to another device.
 //!
-//! Twenty warriors that lose at once come, and two that stay where they are. These win each of their rounds but those against one another, and
-//! the two that came last fall. So the hill has entries 1 to 18 in slots 0 to 17, entry 21 in slot 20 and entry 22 in slot 19. Slot 18 and
-//! some places of results hold what was written of warriors that fell.
+//! Twenty warriors that lose at once come, and two that stay where they are. These win each of their rounds but those
+//! against one another, and the two that came last fall. So the hill has entries 1 to 18 in slots 0 to 17, entry 21 in
+//! slot 20 and entry 22 in slot 19. Slot 18 and some places of results hold what was written of warriors that fell.
 
 use crate::expecting::{expect_same, expect_table};
 use crate::hills::{blank_of, created_on, expect_fault, hill_on, image_of};
@@ -22,8 +22,8 @@ const SECTORS: u32 = 86;
 /// The settings of the hill.
 const TWENTY: RawSettings = small!(capacity: 20);
 
-/// The table: entries, their points, and their ages. The two that stay have two ties with one another, and six points of each other one.
-/// Those that lose have three points of one another, and none of these.
+/// The table: entries, their points, and their ages. The two that stay have two ties with one another, and six points
+/// of each other one. Those that lose have three points of one another, and none of these.
 static ROWS: [Numbers; 20] = [
     (21, 110, 1),
     (22, 110, 0),
@@ -47,7 +47,7 @@ static ROWS: [Numbers; 20] = [
     (18, 51, 4),
 ];
 
-/// The warrior that is submitted as this entry stands on the hill.
+/// The warrior that is submitted as this entry is on the hill.
 fn expect_placed<D: Device, A: Allocator + Copy>(
     rt: &impl Abort,
     store: &mut Store<D, A>,
@@ -146,8 +146,8 @@ fn unsynced(calls: u64) -> u64 {
     }
 }
 
-/// All that was not synced is lost, all is kept, and of the sectors of slots that were not synced each alone is kept or lost: then there is
-/// no header.
+/// All that was not synced is lost, all is kept, and of the sectors of slots that were not synced each alone is kept or
+/// lost: then there is no header.
 fn expect_images<M: TestMemory>(rt: &impl Abort, memory: M, disk: &M::Disk, calls: u64) {
     let (lost, kept) = due(calls);
     expect_image(rt, memory, disk, &LOST, lost);

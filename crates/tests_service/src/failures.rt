@@ -5,8 +5,8 @@ use crate::hosts::Shut;
 use crate::serving::{ALL, Due, act_on_a_fault, within};
 use koth_service::ServiceFault;
 
-/// The device fails in the first submission, which isn't answered. The other peer is served on the hill as it was before, opened again; or
-/// on none, if it can't be.
+/// The device fails in the first submission, which isn't answered. The other peer is served on the hill as it was
+/// before, opened again; or on none, if it can't be.
 static A_DEVICE_THAT_FAILS: [Cue; 8] = [
     (0, Deed::Calls(1)),
     (0, Deed::Takes(1, ALL)),
@@ -27,8 +27,9 @@ static A_DEVICE_THAT_FAILS_DUE: [Due; 3] = [
 /// What comes of it if the hill can't be opened again.
 static A_HILL_THAT_IS_GONE_DUE: [Due; 1] = [Due::Heard(2, "")];
 
-/// The device fails in a submission, and a hundred were answered before. The hill that is opened again has them all, without the one that was
-/// cut off and with it. Of the 220 calls, 5 make the hill, 14 place two warriors, 196 count 98 that fall, and 5 write a slot and sync.
+/// The device fails in a submission, and a hundred were answered before. The hill that is opened again has them all,
+/// without the one that was cut off and with it. Of the 220 calls, 5 make the hill, 14 place two warriors, 196 count 98
+/// that fall, and 5 write a slot and sync.
 static A_HUNDRED_BEFORE: [Cue; 16] = [
     (0, Deed::Calls(1)),
     (0, Deed::Takes(1, ALL)),

@@ -1,5 +1,5 @@
-//! Each growth of memory of a session refused in turn: what is answered then, what stands after it, and what the same input is answered once
-//! there is memory.
+//! Each growth of memory of a session refused in turn: what is answered then, what is after it, and what the same input
+//! is answered once there is memory.
 
 use crate::compare::expect_same;
 use crate::hills::{Ground, Hill, Memory, NEVER, empty_hill, reopened};
@@ -20,18 +20,20 @@ const TIED: &str = "1 1 2 1 Unnamed by Anonymous\n2 2 2 0 Unnamed by Anonymous\n
 /// Of one that won both against the other.
 const WON: &str = "1 1 6 1 Unnamed by Anonymous\n2 2 0 0 Unnamed by Anonymous\n.\n";
 
-/// A number of growths, and how a session ends if one of them is refused: its answers, its end, and the table of the hill after it.
+/// A number of growths, and how a session ends if one of them is refused: its answers, its end, and the table of the
+/// hill after it.
 type Refused = (u64, &'static str, SessionEnd, &'static str);
 
-/// The growths of a session on one warrior, in their order, and then how it ends without a refusal. First come the four buffers, without
-/// which nothing is read, and then those of the assembler.
+/// The growths of a session on one warrior, in their order, and then how it ends without a refusal. First come the four
+/// buffers, without which nothing is read, and then those of the assembler.
 static OF_ONE: [Refused; 3] = [
     (4, "", SessionEnd::Memory, NONE),
     (10, "MEMORY\nBAD\n", SessionEnd::Quit, NONE),
     (1, "PLACED 1 1 0\nBAD\n", SessionEnd::Quit, ONE),
 ];
 
-/// The same if the device has its memory there too: the first writes to the four sectors of a slot and to a header's follow.
+/// The same if the device has its memory there too: the first writes to the four sectors of a slot and to a header's
+/// follow.
 static OF_ONE_AND_DEVICE: [Refused; 4] = [
     (4, "", SessionEnd::Memory, NONE),
     (10, "MEMORY\nBAD\n", SessionEnd::Quit, NONE),
@@ -42,8 +44,8 @@ static OF_ONE_AND_DEVICE: [Refused; 4] = [
 /// Lines of a session on three warriors and their table.
 const THREE: &[u8] = b"SUBMIT\nMOV 0,1\n.\nSUBMIT\nJMP 0\n.\nSUBMIT\nDAT 0,0\n.\nSHOW\n";
 
-/// The same of these. The second header is written to a sector that was written before, as is the third. The table is a list
-/// of rows and a text of 60 bytes, which grows from 8 to 64.
+/// The same of these. The second header is written to a sector that was written before, as is the third. The table is a
+/// list of rows and a text of 60 bytes, which grows from 8 to 64.
 static OF_THREE_AND_DEVICE: [Refused; 8] = rows! {
     4 => "", SessionEnd::Memory, NONE;
     10
@@ -129,7 +131,8 @@ fn expect_ending(
     expect_table(rt, ground.memory, store, table);
 }
 
-/// Each growth of a session on these lines is refused in turn, and each time they are given to a session with memory then.
+/// Each growth of a session on these lines is refused in turn, and each time they are given to a session with memory
+/// then.
 fn expect_growths(
     rt: &(impl Abort + AllocGlobal),
     ground: Ground<'_>,

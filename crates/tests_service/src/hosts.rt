@@ -26,7 +26,12 @@ pub(crate) struct Shut;
 impl<'m> Host<Fuse<'m>, Memory<'m>> for Clerk<'m> {
     type Fault = Shut;
 
-    ghost shows = { λ _ _. record { names = codes "here.example" ∷ []; pages = λ page _. page ≡ pages.Hill; steps = 1000000 } };
+    ghost shows = { λ _ _. record {
+      names = codes "here.example" ∷ [];
+      pages = λ page _. page
+          ≡ pages.Hill;
+      steps = 1000000;
+    } };
 
     fn reopen(&self, device: Fuse<'m>) -> Result<Hill<'m>, Shut> {
         let openings = self.openings.get();

@@ -1,18 +1,21 @@
-//! Tests of the public calls of `koth_session` and `koth_service`: of what no clause of them says, and no run of the program shows.
+//! Tests of the public calls of `koth_session` and `koth_service`: of what no clause of them says, and no run of the
+//! program shows.
 //!
-//! No crate stands on this one, so those are proved once, without tests, and the tests are proved over them. Memory, device, hill, input, output,
-//! sockets and host are of one type each, so that what is called is compiled once:
+//! No crate depends on this one, so those are proved once, without tests, and the tests are proved over them. Memory,
+//! device, hill, input, output, sockets and host are of one type each, so that what is called is compiled once:
 //!
-//! - `compare`: how the tests compare; `hills`: hills over a device that may fail and memory that may be refused; `streams`: what a session reads
-//!   and writes;
-//! - `sessions`: how a session ends if a stream or the device fails; `growths`: each of its growths of memory refused in turn;
-//! - `scripts`: what several peers do, and `peers`: whose turn it is, submissions under way, growths that are refused and a device that fails;
-//! - `callers`, `fakes` and `hosts`: sockets of no system, those who call at them, and the host of a service; `serving`: what has to come of a
-//!   service over these;
+//! - `compare`: how the tests compare; `hills`: hills over a device that may fail and memory that may be refused;
+//!   `streams`: what a session reads and writes;
+//! - `sessions`: how a session ends if a stream or the device fails; `growths`: each of its growths of memory refused
+//!   in turn;
+//! - `scripts`: what several peers do, and `peers`: whose turn it is, submissions in progress, growths that are refused
+//!   and a device that fails;
+//! - `callers`, `fakes` and `hosts`: sockets of no system, those who call at them, and the host of a service;
+//!   `serving`: what has to come of a service over these;
 //! - `services`, `places` and `failures`: what depends on the clock, on accepts that fail and on a device that fails.
 //!
-//! What they expect was counted by hand. A test here must not show what a contract could say instead. What the program answers peers and browsers
-//! over sockets of the system, `bench/door` shows.
+//! What they expect was counted by hand. A test here must not show what a contract could say instead. What the program
+//! answers peers and browsers over sockets of the system, `bench/door` shows.
 #![tactic(auto)]
 
 #[cfg(test)]

@@ -23,8 +23,8 @@ static IN_TURN: [Act; 11] = [
     Act::Send(2, ".\n.\n"),
 ];
 
-/// A peer that reads none of its answers is disconnected at 1,048,576 bytes of them: 262,144 lines of four bytes. The other one is served
-/// still.
+/// A peer that reads none of its answers is disconnected at 1,048,576 bytes of them: 262,144 lines of four bytes. The
+/// other one is served still.
 static UNREAD: [Act; 11] = [
     Act::Connect(&[0, 1]),
     Act::Lines(262_144),
@@ -39,7 +39,7 @@ static UNREAD: [Act; 11] = [
     Act::Send(1, "BAD\n"),
 ];
 
-/// While a submission is under way a table is that of the hill before it, `BAD` and `QUIT` are carried out, and the
+/// While a submission is in progress a table is that of the hill before it, `BAD` and `QUIT` are carried out, and the
 /// next submission waits for its turn. So does the table of the peer that submits.
 static BESIDE_A_SUBMISSION: [Act; 15] = [
     Act::Come(0, "SUBMIT\nMOV 0,1\n.\nSHOW\n"),
@@ -59,7 +59,7 @@ static BESIDE_A_SUBMISSION: [Act; 15] = [
     Act::Ended(2, Some(PeerEnd::Quit)),
 ];
 
-/// A peer that leaves while its submission is under way leaves no trace of it, and the next submission is begun.
+/// A peer that leaves while its submission is in progress leaves no trace of it, and the next submission is begun.
 static GIVEN_UP: [Act; 7] = [
     Act::Come(0, "SUBMIT\nMOV 0,1\n.\n"),
     Act::Come(1, "SUBMIT\nJMP 0\n.\nSHOW\n"),
@@ -70,7 +70,8 @@ static GIVEN_UP: [Act; 7] = [
     Act::Send(1, "PLACED 1 1 0\n1 1 0 0 Unnamed by Anonymous\n.\n"),
 ];
 
-/// Sources of other peers that give no warrior are refused while a submission is under way: each peer's next one in its next turn.
+/// Sources of other peers that give no warrior are refused while a submission is in progress: each peer's next one in
+/// its next turn.
 static REFUSED_BESIDE: [Act; 13] = [
     Act::Come(0, "SUBMIT\nMOV 0,1\n.\n"),
     Act::Serve(&[Step::Served(0)]),
@@ -87,8 +88,8 @@ static REFUSED_BESIDE: [Act; 13] = [
     Act::Send(0, "PLACED 2 2 2\n"),
 ];
 
-/// A source that gives a warrior is put off while the submission of another peer is under way, once, and judged at the hill after it. The next
-/// command of its peer is carried out in its turn.
+/// A source that gives a warrior is put off while the submission of another peer is in progress, once, and judged at
+/// the hill after it. The next command of its peer is carried out in its turn.
 static PUT_OFF_BESIDE: [Act; 15] = [
     Act::Come(0, "SUBMIT\nMOV 0,1\n.\nSUBMIT\nJMP 0\n.\n"),
     Act::Serve(&[Step::Served(0)]),
@@ -107,8 +108,8 @@ static PUT_OFF_BESIDE: [Act; 15] = [
     Act::Send(1, "FELL 3 0\nREFUSED 1 MissingOperand\n"),
 ];
 
-/// A source that was put off isn't assembled again until no submission is under way, over two submissions of other peers. Of two that were put off
-/// the first after the peer of the last submission is next.
+/// A source that was put off isn't assembled again until no submission is in progress, over two submissions of other
+/// peers. Of two that were put off the first after the peer of the last submission is next.
 static PUT_OFF_BESIDE_TWO: [Act; 12] = [
     Act::Come(2, "SUBMIT\nMOV 0,1\n.\n"),
     Act::Steps(&[Step::Stepped(2)]),
@@ -124,7 +125,8 @@ static PUT_OFF_BESIDE_TWO: [Act; 12] = [
     Act::Send(2, "PLACED 1 1 0\n"),
 ];
 
-/// A submission that has its share is fought on, whoever has the turn, and the turn stays where it is: also at its last step.
+/// A submission that has its share is fought on, no matter who has the turn, and the turn stays where it is: also at
+/// its last step.
 static BY_ITS_SHARE: [Act; 13] = [
     Act::Come(0, "SUBMIT\nMOV 0,1\n.\n"),
     Act::Serve(&[Step::Served(0)]),
@@ -141,8 +143,8 @@ static BY_ITS_SHARE: [Act; 13] = [
     Act::Send(0, "PLACED 1 1 0\nPLACED 2 2 2\n"),
 ];
 
-/// Once a submission is given up, the source that was put off is next, whoever has the turn: not that of a peer that came while a table moved the
-/// turn on. So two peers that submit and leave in turn keep none from being judged.
+/// Once a submission is given up, the source that was put off is next, no matter who has the turn: not that of a peer
+/// that came while a table moved the turn on. So two peers that submit and leave in turn keep none from being judged.
 static NOBODY_STARVES: [Act; 14] = [
     Act::Come(0, "SUBMIT\nMOV 0,1\n.\n"),
     Act::Steps(&[Step::Stepped(0)]),
@@ -160,7 +162,8 @@ static NOBODY_STARVES: [Act; 14] = [
     Act::Steps(&[Step::Stepped(0), Step::Served(2)]),
 ];
 
-/// A source whose assembly spends its steps while the submission of another peer is under way ends its session, and that submission goes on.
+/// A source whose assembly spends its steps while the submission of another peer is in progress ends its session, and
+/// that submission goes on.
 static SPENT_BESIDE: [Act; 8] = [
     Act::Come(0, "SUBMIT\nMOV 0,1\n.\n"),
     Act::Steps(&[Step::Stepped(0)]),
@@ -199,7 +202,8 @@ static FOUR: [Act; 1] = [Act::Connect(&[0, 1, 2, 3])];
 
 static NOBODY: [Act; 0] = [];
 
-/// The ten growths of an assembly are refused in turn: each time the source is answered `MEMORY`, and nothing is under way.
+/// The ten growths of an assembly are refused in turn: each time the source is answered `MEMORY`, and nothing is in
+/// progress.
 static WITHOUT_AN_ASSEMBLY: [Act; 5] = [
     Act::Come(0, "SUBMIT\nMOV 0,1\n.\n"),
     Act::Refuse(0),
@@ -208,7 +212,8 @@ static WITHOUT_AN_ASSEMBLY: [Act; 5] = [
     Act::Send(0, "MEMORY\n"),
 ];
 
-/// Then a submission is begun, and the growth for a table beside it is refused: that peer's session ends, and the submission goes on.
+/// Then a submission is begun, and the growth for a table next to it is refused: that peer's session ends, and the
+/// submission goes on.
 static WITHOUT_A_TABLE: [Act; 11] = [
     Act::Come(0, "SUBMIT\nMOV 0,1\n.\n"),
     Act::Refuse(10),
@@ -223,7 +228,8 @@ static WITHOUT_A_TABLE: [Act; 11] = [
     Act::Send(0, "PLACED 1 1 0\n"),
 ];
 
-/// The ten growths of an assembly are refused in turn while the submission of another peer is under way: each time the source is answered `MEMORY`.
+/// The ten growths of an assembly are refused in turn while the submission of another peer is in progress: each time
+/// the source is answered `MEMORY`.
 static WITHOUT_ANOTHER: [Act; 9] = [
     Act::Come(0, "SUBMIT\nMOV 0,1\n.\n"),
     Act::Steps(&[Step::Stepped(0)]),
@@ -250,8 +256,8 @@ static WITH_ANOTHER: [Act; 10] = [
     Act::Send(1, "PLACED 2 2 0\n"),
 ];
 
-/// The device fails at the header of a submission, after ten calls: five make the hill, and five write a slot and sync. Nothing is answered to
-/// its peer.
+/// The device fails at the header of a submission, after ten calls: five make the hill, and five write a slot and sync.
+/// Nothing is answered to its peer.
 static BEFORE_A_FAULT: [Act; 7] = [
     Act::Connect(&[0, 1]),
     Act::Come(0, "SUBMIT\nMOV 0,1\n.\nSHOW\n"),

@@ -3,8 +3,8 @@
 use crate::callers::{Cue, Deed};
 use crate::serving::{ALL, Due, act_within, within};
 
-/// A peer whose bytes make no whole line keeps its place while nobody waits. If another peer waits, it keeps the place for 60 seconds after its
-/// last line, be it one of a source, and no longer.
+/// A peer whose bytes make no whole line keeps its place while no one waits. If another peer waits, it keeps the place
+/// for 60 seconds after its last line, be it one of a source, and no longer.
 static BYTES_WITHOUT_A_LINE: [Cue; 11] = [
     (0, Deed::Calls(1)),
     (0, Deed::Takes(1, ALL)),
@@ -27,7 +27,8 @@ static BYTES_WITHOUT_A_LINE_DUE: [Due; 5] = [
     Due::Closed(2, 210_001),
 ];
 
-/// If another peer waits, a peer that sends nothing keeps its place for 2 seconds. One that sent a byte in these keeps it longer.
+/// If another peer waits, a peer that sends nothing keeps its place for 2 seconds. One that sent a byte in these keeps
+/// it longer.
 static A_FIRST_BYTE: [Cue; 9] = [
     (0, Deed::Calls(1)),
     (1_000, Deed::Calls(2)),
@@ -76,8 +77,9 @@ static THE_LONGEST_UNUSED_DUE: [Due; 6] = [
     Due::Told("3 ", &["connected", "By(EndOfInput)"]),
 ];
 
-/// A peer whose command waits for its turn during a submission of 70 seconds isn't displaced for another one, neither before its command is
-/// carried out nor right after it; nor is the one that submitted. Its table is that of the hill before the submission.
+/// A peer whose command waits for its turn during a submission of 70 seconds isn't displaced for another one, neither
+/// before its command is carried out nor right after it; nor is the one that submitted. Its table is that of the hill
+/// before the submission.
 static A_TURN_THAT_IS_AWAITED: [Cue; 13] = [
     (0, Deed::Calls(1)),
     (0, Deed::Takes(1, ALL)),
@@ -102,7 +104,8 @@ static A_TURN_THAT_IS_AWAITED_DUE: [Due; 5] = [
     Due::Heard(3, "BAD\n"),
 ];
 
-/// Peers whose sessions have ended, by `QUIT` and by the end of their bytes, have all their answers before they are disconnected.
+/// Peers whose sessions have ended, by `QUIT` and by the end of their bytes, have all their answers before they are
+/// disconnected.
 static ANSWERS_THAT_ARE_OWED: [Cue; 9] = [
     (0, Deed::Calls(1)),
     (0, Deed::Says(1, "BOGUS\nQUIT\n")),
@@ -124,7 +127,8 @@ static ANSWERS_THAT_ARE_OWED_DUE: [Due; 6] = [
     Due::Told("2 ", &["connected", "By(EndOfInput)"]),
 ];
 
-/// A peer whose first bytes come during a submission of 3 seconds isn't displaced for another one, though nothing was read of it until then.
+/// A peer whose first bytes come during a submission of 3 seconds isn't displaced for another one, though nothing was
+/// read of it until then.
 static BYTES_DURING_A_SUBMISSION: [Cue; 11] = [
     (0, Deed::Calls(2)),
     (0, Deed::Takes(2, ALL)),

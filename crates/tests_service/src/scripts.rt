@@ -29,9 +29,10 @@ pub(crate) enum Act {
     Steps(&'static [Step]),
     /// A step serves this within this number of steps of an assembly.
     StepWithin(u64, Step),
-    /// A step serves this, if the submission that is under way has its share.
+    /// A step serves this, if the current submission has its share.
     Share(Step),
-    /// Steps serve these, each after the steps of a submission that is under way, and after sources that are put off meanwhile.
+    /// Steps serve these, each after the steps of a submission in progress, and after sources that are put off
+    /// meanwhile.
     Serve(&'static [Step]),
     /// A peer was given these answers, and they are sent.
     Send(usize, &'static str),
@@ -49,8 +50,8 @@ pub(crate) enum Act {
     Refused(u64),
 }
 
-/// Peers, for `most` of whom there is room, act so on an empty hill: first `begin`, then `repeated` for `runs` times, and then `end`. Where growths
-/// are refused, those of the device aren't.
+/// Peers, for `most` of whom there is room, act so on an empty hill: first `begin`, then `repeated` for `runs` times,
+/// and then `end`. Where growths are refused, those of the device aren't.
 pub(crate) fn follow(
     rt: &(impl Abort + AllocGlobal),
     most: usize,
@@ -78,7 +79,8 @@ pub(crate) fn follow(
     drop(memory);
 }
 
-/// Two peers act so on an empty hill whose device fails once, after ten calls, and then on the one that is opened again.
+/// Two peers act so on an empty hill whose device fails once, after ten calls, and then on the one that is opened
+/// again.
 pub(crate) fn follow_over_a_fault(rt: &(impl Abort + AllocGlobal), before: &[Act], after: &[Act]) {
     let memory = Refusing::new(rt.alloc());
     let mut judge = Judge::new(empty_hill(rt, failing(&memory, 10, FuseKind::FailKept)));
@@ -184,7 +186,8 @@ fn send(rt: &impl Abort, peers: &mut Peers<Memory<'_>>, number: usize, answers: 
     expect_same(rt, &peers.unsent(number).len(), &0, "bytes that wait");
 }
 
-/// Steps serve these. With `skips` each comes after the steps of a submission that is under way, and after sources that are put off meanwhile.
+/// Steps serve these. With `skips` each comes after the steps of a submission in progress, and after sources that are
+/// put off meanwhile.
 fn step_on<'m>(
     rt: &impl Abort,
     peers: &mut Peers<Memory<'m>>,
@@ -198,7 +201,7 @@ fn step_on<'m>(
     }
 }
 
-/// What is served after `most` steps at most of a submission that is under way, and of sources that are put off meanwhile.
+/// What is served after `most` steps at most of a submission in progress, and of sources that are put off meanwhile.
 fn served<'m>(peers: &mut Peers<Memory<'m>>, judge: &mut HillJudge<'m>, most: u32) -> Step {
     for _step in 0..most {
         let found = peers.serve_next(false, 1_000_000, TURNS, judge);

@@ -44,8 +44,8 @@ static A_LONG_SUBMISSION_DUE: [Due; 4] = [
     Due::Told("2 ", &["connected", "By(EndOfInput)"]),
 ];
 
-/// An accept that fails is tried again after 100 milliseconds. A third peer, where two may be at once, waits until one of them was let
-/// go.
+/// An accept that fails is tried again after 100 milliseconds. A third peer, where two may be at once, waits until one
+/// of them was let go.
 static ARRIVALS: [Cue; 13] = [
     (0, Deed::Fails),
     (0, Deed::Calls(1)),
@@ -91,8 +91,9 @@ static AN_ACCEPT_THAT_FAILS: [Cue; 7] = [
 
 static AN_ACCEPT_THAT_FAILS_DUE: [Due; 2] = [Due::Heard(7, NOBODY), Due::Closed(7, 100)];
 
-/// A browser whose request isn't there in 2 seconds is disconnected if another waits, and so is one that hasn't taken its answer in 60, and one that
-/// never closes its connection. A third one waits for a slot, and a peer for none of them. The answer has a head of 392 bytes.
+/// A browser whose request isn't there in 2 seconds is disconnected if another waits, and so is one that hasn't taken
+/// its answer in 60, and one that never closes its connection. A third one waits for a slot, and a peer for none of
+/// them. The answer has a head of 392 bytes.
 static SLOW_BROWSERS: [Cue; 14] = [
     (0, Deed::Visits(7)),
     (0, Deed::Says(7, "GET / HT")),

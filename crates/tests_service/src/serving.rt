@@ -33,8 +33,8 @@ struct Served<'c> {
     told: Vec<u8>,
 }
 
-/// Serves these peers and browsers within these limits on an empty hill. The device fails once, after `calls` calls, and the hill may be
-/// opened again `openings` times. What ended the service early comes back, if something did.
+/// Serves these peers and browsers within these limits on an empty hill. The device fails once, after `calls` calls,
+/// and the hill may be opened again `openings` times. What ended the service early comes back, if something did.
 fn serve<'c>(
     rt: &(impl Abort + AllocGlobal),
     cues: &'c [Cue],

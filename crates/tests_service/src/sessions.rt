@@ -1,4 +1,5 @@
-//! Sessions over streams: how they end if a read, a write or a call of the device fails, and that no signal and no answer that is awaited ends one.
+//! Sessions over streams: how they end if a read, a write or a call of the device fails, and that no signal and no
+//! answer that is awaited ends one.
 
 use crate::compare::expect_same;
 use crate::hills::{Hill, Memory, NEVER, empty_hill, expect_count, failing, reopened};
@@ -49,7 +50,8 @@ pub(crate) fn expect_session<'m>(
     drop(output);
 }
 
-/// The same on an empty hill of its own, on which `count` warriors are then, and on the one that is opened on its device.
+/// The same on an empty hill of its own, on which `count` warriors are then, and on the one that is opened on its
+/// device.
 fn expect_alone(
     rt: &(impl Abort + AllocGlobal),
     pieces: &[&[u8]],
@@ -153,8 +155,8 @@ fn a_read_that_fails(rt: HostRuntime) {
     expect_read(&rt, b"SHOW\n", 5, 2, b".\n");
 }
 
-/// A session of one warrior whose output takes `room` bytes, `written` at a time, and then is full. It takes the first bytes of the
-/// answers, and the warrior stays.
+/// A session of one warrior whose output takes `room` bytes, `written` at a time, and then is full. It takes the first
+/// bytes of the answers, and the warrior stays.
 fn expect_full(
     rt: &(impl Abort + AllocGlobal),
     lines: &[u8],
@@ -199,7 +201,8 @@ fn a_writer_that_is_full(rt: HostRuntime) {
     );
 }
 
-/// Lines of a session whose device fails in a submission, or did before, its answers and its end: then a table is answered, and no submission.
+/// Lines of a session whose device fails in a submission, or did before, its answers and its end: then a table is
+/// answered, and no submission.
 static ON_A_FAILED_STORE: [(&[u8], &[u8], SessionEnd); 4] = [
     (LINES, b"", SessionEnd::StoreFailed),
     (b"SHOW\nQUIT\n", b".\n", SessionEnd::Quit),
@@ -231,8 +234,8 @@ fn expect_after(rt: &(impl Abort + AllocGlobal), calls: u64, kind: FuseKind, cou
     drop(memory);
 }
 
-/// Five calls create the hill. Then come those of the warrior: four sectors of its slot, a sync, the header and a sync. The one that fails isn't
-/// made, or it is.
+/// Five calls create the hill. Then come those of the warrior: four sectors of its slot, a sync, the header and a sync.
+/// The one that fails isn't made, or it is.
 #[test]
 fn a_device_that_fails(rt: HostRuntime) {
     for calls in 5..12 {

@@ -9,8 +9,8 @@ const HILL: &str = "GET / HTTP/1.1\r\nHost: 127.0.0.1:80\r\n\r\n";
 /// The line of a request for the page of a hill without warriors, and of its answer.
 const SHOWN: &str = "GET / HTTP/1.1: 200 399";
 
-/// Two browsers that say nothing have both slots. One that waits is given that of the first one after a quarter of a second, and is answered;
-/// the second one keeps its slot.
+/// Two browsers that say nothing have both slots. One that waits is given that of the first one after a quarter of a
+/// second, and is answered; the second one keeps its slot.
 static SILENT_BROWSERS: [Cue; 9] = [
     (0, Deed::Visits(7)),
     (10, Deed::Visits(8)),
@@ -32,8 +32,8 @@ static SILENT_BROWSERS_DUE: [Due; 6] = [
     Due::Told("8 ", &["Gone"]),
 ];
 
-/// A browser whose request isn't whole keeps its slot for 2 seconds if another waits, and one that came later longer. One whose request is whole
-/// keeps it, though it takes no byte of its answer.
+/// A browser whose request isn't whole keeps its slot for 2 seconds if another waits, and one that came later longer.
+/// One whose request is whole keeps it, though it takes no byte of its answer.
 static HALF_REQUESTS: [Cue; 9] = [
     (0, Deed::Visits(7)),
     (0, Deed::Says(7, HILL)),

@@ -6,8 +6,8 @@ use std::io;
 use std::io::{ErrorKind, Read, Write};
 use tests_fixtures::{FULL, Full, FullWriter, writer};
 
-/// How streams behave: bytes of a read and of a write at most, the read that fails (the first is 1, none is 0), the bytes that the output
-/// takes before it is full, what it does then, and whether a signal interrupts each call once.
+/// How streams behave: bytes of a read and of a write at most, the read that fails (the first is 1, none is 0), the
+/// bytes that the output takes before it is full, what it does then, and whether a signal interrupts each call once.
 #[derive(Clone, Copy)]
 pub(crate) struct Manner {
     pub(crate) read: usize,

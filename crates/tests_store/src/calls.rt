@@ -12,7 +12,8 @@ use tests_stores::{
     refusal_to_create, refusal_to_open, run, set_byte, submit, tried_reply, with_zeros,
 };
 
-/// Creating makes five calls: sync, read, read, write, sync. Each warrior that is placed makes seven more, the one that falls two.
+/// Creating makes five calls: sync, read, read, write, sync. Each warrior that is placed makes seven more, the one that
+/// falls two.
 fn expect_list<M: TestMemory>(rt: &impl Abort, memory: M) {
     let mut store = created_on(rt, memory, new_in(rt, memory));
     expect_replies(rt, &mut store, &SOURCES, &REPLIES);
@@ -23,7 +24,8 @@ fn expect_list<M: TestMemory>(rt: &impl Abort, memory: M) {
 /// Numbers of steps, and the reply within them.
 static WITHIN: [(u64, Option<Reply>); 2] = [(0, None), (1_000_000, Some(FIRST))];
 
-/// A source whose assembly spends its steps is not submitted, and its device is not called. Within enough of them it is.
+/// A source whose assembly spends its steps is not submitted, and its device is not called. Within enough of them it
+/// is.
 fn expect_spent<M: TestMemory>(rt: &impl Abort, memory: M) {
     let mut store = created_on(rt, memory, new_in(rt, memory));
     for (steps, reply) in &WITHIN {
@@ -64,8 +66,8 @@ static BLANK: [(u32, Option<Refusal>); 4] = [
     (1, Some(Refusal::TooSmall)),
 ];
 
-/// No hill is created on a disk that is too small, or has one. A command makes a file that is large enough before it creates a hill.
-/// Files that are refused to be opened are in `bench/transcripts`.
+/// No hill is created on a disk that is too small, or has one. A command makes a file that is large enough before it
+/// creates a hill. Files that are refused to be opened are in `bench/transcripts`.
 fn expect_refused<M: TestMemory>(rt: &impl Abort, memory: M) {
     for (sectors, refusal) in &BLANK {
         let disk = memory.blank(*sectors).expect(rt, "there is memory");
@@ -134,8 +136,9 @@ fn disk_with<M: TestMemory>(rt: &impl Abort, memory: M, n: u32, header: &[u8]) -
     disk
 }
 
-/// A device whose header names two slots, in which there are no warriors, is refused so if it stops after `calls` calls. A sync, two headers
-/// and the four sectors of the first slot are seven calls: if the eighth fails, the first slot is reported all the same.
+/// A device whose header names two slots, in which there are no warriors, is refused so if it stops after `calls`
+/// calls. A sync, two headers and the four sectors of the first slot are seven calls: if the eighth fails, the first
+/// slot is reported all the same.
 fn expect_bad_slots<M: TestMemory>(rt: &impl Abort, memory: M, calls: u64, refusal: Refusal) {
     let device = memory.failing(disk_with(rt, memory, 0, &NAMED), calls, FuseKind::Stop);
     let found = refusal_to_open(memory, device);
@@ -168,7 +171,8 @@ fn expect_no_earlier_hill<M: TestMemory>(rt: &impl Abort, memory: M) {
     drop(answered_on(rt, memory, lasting(memory, disk), &ONE));
 }
 
-/// Lists, steps that are spent, trials, devices that are refused or fail, slots in their order, the greatest generation, and an earlier hill.
+/// Lists, steps that are spent, trials, devices that are refused or fail, slots in their order, the greatest
+/// generation, and an earlier hill.
 struct Calls;
 
 impl<R: Abort> Trial<R> for Calls {

@@ -1,5 +1,6 @@
-//! Growths of memory that are refused, one by one, of a creation, an opening, a submission and a table. `devices` has growths of the device's
-//! memory, and `lists` growths of a list of submissions. `stinting` shows that there are none after the first call of the device.
+//! Growths of memory that are refused, one by one, of a creation, an opening, a submission and a table. `devices` has
+//! growths of the device's memory, and `lists` growths of a list of submissions. `stinting` shows that there are none
+//! after the first call of the device.
 //!
 //! The store has its memory from one allocator, and its device from another, but for `lists`.
 
@@ -45,8 +46,8 @@ fn expect_opening<M: TestMemory>(rt: &impl Abort, memory: M, disk: &M::Disk, k: 
     expect_same(rt, &found, &due(k, 6), "an opening");
 }
 
-/// Each growth of a creation: the members, and an arena's cells, the list of the written ones, and two queues. Then each growth of an
-/// opening: these, and the code of the one warrior.
+/// Each growth of a creation: the members, and an arena's cells, the list of the written ones, and two queues. Then
+/// each growth of an opening: these, and the code of the one warrior.
 fn expect_hill_growths<M: TestMemory>(rt: &impl Abort, memory: M, disks: M) {
     for k in 0..6 {
         expect_creation(rt, memory, disks, k);
@@ -94,8 +95,8 @@ fn expect_growth<M: TestMemory>(
     expect_same(rt, &(begun, tried, submitted), &due, "a growth");
 }
 
-/// The ten growths of a warrior, on an empty hill of two. A submission that is answered `Memory` leaves the hill as it was, so the first
-/// that isn't is entry 1. So it is with one that is begun, and with a trial.
+/// The ten growths of a warrior, on an empty hill of two. A submission that is answered `Memory` leaves the hill as it
+/// was, so the first that isn't is entry 1. So it is with one that is begun, and with a trial.
 fn expect_warrior_growths<M: TestMemory>(rt: &impl Abort, memory: M, disks: M) {
     let mut store = created_on(rt, memory, new_in(rt, disks));
     for k in 0..11 {
@@ -105,7 +106,8 @@ fn expect_warrior_growths<M: TestMemory>(rt: &impl Abort, memory: M, disks: M) {
     expect_calls(rt, store, 5 + 7);
 }
 
-/// The first row of the table with growth `k` refused, if there is memory for the table then, and how many growths were refused.
+/// The first row of the table with growth `k` refused, if there is memory for the table then, and how many growths were
+/// refused.
 fn expect_first_row<M: TestMemory>(
     rt: &impl Abort,
     memory: M,
@@ -128,8 +130,8 @@ fn expect_table_growth<M: TestMemory>(rt: &impl Abort, memory: M) {
     drop(store);
 }
 
-/// Growths of hills, of a warrior, of a table, of a device and of a list, and none after a device was called. After each of these both
-/// memories refuse nothing.
+/// Growths of hills, of a warrior, of a table, of a device and of a list, and none after a device was called. After
+/// each of these both memories refuse nothing.
 struct Growths;
 
 impl<R: Abort> Trial<R> for Growths {

@@ -10,8 +10,8 @@ use tests_stores::{Answered, FIRST, Numbers, TestMemory, Trial, close, placed, r
 /// Calls that open a hill of two: a sync, two headers, and four sectors of each slot.
 const OPENING: u64 = 11;
 
-/// What a store answers whose device fails at the last sync while a third warrior is placed: 5 calls create the hill, and each warrior
-/// makes 7. The first two lose at once, and each of them wins a round.
+/// What a store answers whose device fails at the last sync while a third warrior is placed: 5 calls create the hill,
+/// and each warrior makes 7. The first two lose at once, and each of them wins a round.
 static FAILING: [Answered; 4] = [
     (b"DAT 0,0", FIRST),
     (b"DAT 0,0", placed!(2, 2, 3)),
@@ -36,7 +36,8 @@ fn failed<M: TestMemory>(rt: &impl Abort, memory: M, device: M::Device) -> M::De
     close(store)
 }
 
-/// The disk after the fault, on which the hill has two warriors. Then it stops after the four writes of a fourth warrior's slot.
+/// The disk after the fault, on which the hill has two warriors. Then it stops after the four writes of a fourth
+/// warrior's slot.
 fn stopped_in_a_slot<M: TestMemory>(rt: &impl Abort, memory: M) -> M::Disk {
     let device = blank_within(rt, memory, 25, FuseKind::FailLost);
     let device = answered_on(rt, memory, device, &FAILING);
@@ -53,7 +54,8 @@ fn choice_of(kept: u32) -> [u32; 10] {
     choice
 }
 
-/// In the first of these sectors stands `JMP.B $0, $0`, or `DAT.F $0, $0` of the warrior that fell. Either way the hill has two warriors.
+/// In the first of these sectors is `JMP.B $0, $0`, or `DAT.F $0, $0` of the warrior that fell. Either way the hill has
+/// two warriors.
 fn expect_image<M: TestMemory>(rt: &impl Abort, memory: M, disk: &M::Disk, kept: u32) {
     let mut image = image_of(rt, memory, disk, &choice_of(kept));
     let content = sector(&mut image, 6).expect(rt, "it has the sector");

@@ -65,7 +65,7 @@ fn given_up<D: Device, A: Allocator + Copy>(
     drop(submission);
 }
 
-/// The submission of this source is judged beside these rows, and answered so.
+/// The submission of this source is judged next to these rows, and answered so.
 fn expect_judged<D: Device, A: Allocator + Copy>(
     rt: &impl Abort,
     store: &mut Store<D, A>,
@@ -80,7 +80,8 @@ fn expect_judged<D: Device, A: Allocator + Copy>(
     expect_same(rt, &reply, &due, "a reply in parts");
 }
 
-/// One that is given up leaves the table and the device as they were, and the next one is judged and placed as if it were the first.
+/// One that is given up leaves the table and the device as they were, and the next one is judged and placed as if it
+/// were the first.
 fn expect_parts<M: TestMemory>(rt: &impl Abort, memory: M) {
     let mut store = created_on(rt, memory, new_in(rt, memory));
     expect_reply(rt, &mut store, b"MOV 0,1", FIRST);
@@ -102,8 +103,8 @@ fn expect_first<M: TestMemory>(rt: &impl Abort, memory: M, store: &mut Store<M::
     expect_same(rt, &found, &(FIRST, 0), "without memory");
 }
 
-/// A submission in parts, and then one whose steps have no memory, on a device that has its own from elsewhere. What is begun takes
-/// memory: `growths` refuses it.
+/// A submission in parts, and then one whose steps have no memory, on a device that has its own from elsewhere. What is
+/// begun takes memory: `growths` refuses it.
 struct Steps;
 
 impl<R: Abort> Trial<R> for Steps {

@@ -19,13 +19,14 @@ const KEPT: u32 = 9;
 /// A choice that keeps all that was written.
 static ALL: [u32; CHOICES] = [KEPT; CHOICES];
 
-/// What an image opens to: its rows, `NONE` where there is none, and the entry that comes next, or why it opens to no hill.
+/// What an image opens to: its rows, `NONE` where there is none, and the entry that comes next, or why it opens to no
+/// hill.
 type Opens = Result<(Numbers, Numbers, u64), Refusal>;
 
 /// No row.
 const NONE: Numbers = (0, 0, 0);
 
-/// What is due before a hill stands there.
+/// What is due before a hill is there.
 const NO_HILL: Opens = Err(Refusal::NotAHill);
 
 /// What is due of a hill without warriors.
@@ -40,9 +41,10 @@ const TWO: Opens = Ok(((1, 2, 1), (2, 2, 0), 3));
 /// What is due of a hill of two on which a third fell.
 const FALLEN: Opens = Ok(((1, 2, 1), (2, 2, 0), 4));
 
-/// What is due if the device stops after `calls` calls: without the header that is written and not synced, and with it. Counted by
-/// hand from the order of the calls. A creation is a sync, two reads, the header and a sync. Each warrior that is placed is the four sectors
-/// of its slot, a sync, the header and a sync, and the one that falls the header and a sync.
+/// What is due if the device stops after `calls` calls: without the header that is written and not synced, and with it.
+/// Counted by hand from the order of the calls. A creation is a sync, two reads, the header and a sync. Each warrior
+/// that is placed is the four sectors of its slot, a sync, the header and a sync, and the one that falls the header and
+/// a sync.
 fn due(calls: u64) -> (Opens, Opens) {
     match calls {
         0..=3 => (NO_HILL, NO_HILL),
@@ -57,7 +59,7 @@ fn due(calls: u64) -> (Opens, Opens) {
     }
 }
 
-/// What is due if one sector alone is kept of all that was not synced. If that is a header, it stands in sector 0 or 1.
+/// What is due if one sector alone is kept of all that was not synced. If that is a header, it is in sector 0 or 1.
 fn due_with(n: usize, calls: u64) -> Opens {
     let (lost, kept) = due(calls);
     let header = match calls {

@@ -25,8 +25,8 @@ impl RandomSource for Source<'_> {
     }
 }
 
-/// Random bytes, and the seed that they give: of the least number and the greatest, and of those where the seeds begin again. If the source
-/// fails there is no seed.
+/// Random bytes, and the seed that they give: of the least number and the greatest, and of those where the seeds begin
+/// again. If the source fails there is no seed.
 static DRAWN: [(&[u8], Option<u32>); 6] = [
     (&[0, 0, 0, 0, 0, 0, 0, 0], Some(1)),
     (&[0xfd, 0xff, 0xff, 0x7f, 0, 0, 0, 0], Some(2_147_483_646)),
@@ -51,7 +51,7 @@ fn seeds_of_random_bytes(rt: HostRuntime) {
 /// What is told if no argument is at fault, and if there is no memory to say which one is.
 const NO_TEXT: &str = "error: an argument is not UTF-8\n\nFor more information, try '--help'.\n";
 
-/// What is told of the arguments of this program, which are all text, if growth `k` is refused.
+/// What is reported about the arguments of this program, which are all text, if growth `k` is refused.
 fn check_arguments(rt: &(impl Abort + Env + AllocGlobal), memory: &Refusing<Global>, k: u64) {
     let mut errors = Vec::new(rt.alloc());
     memory.refuse(k, 1);

@@ -1,4 +1,4 @@
-//! Each growth of memory of a contest or an explanation refused in turn: what was written before stands.
+//! Each growth of memory of a contest or an explanation refused in turn: what was written before is.
 
 use crate::growths::{put, remove, small};
 use crate::program::{Host, Memory, Streams, expect, outcome, text_in, whole};

@@ -1,4 +1,5 @@
-//! Each growth of memory of a command refused in turn: it is told or answered, and with memory the command is done then.
+//! Each growth of memory of a command refused in turn: it is told or answered, and with memory the command is done
+//! then.
 
 use crate::program::{Due, Host, Memory, check};
 use std::fs;
@@ -28,7 +29,7 @@ struct Command {
     faults: u64,
     /// These, and the ones after them, whose refusal is answered as `MEMORY`.
     answers: u64,
-    /// These, and those after them, without which the answer stands alone.
+    /// These, and those after them, without which the answer is alone.
     growths: u64,
     line: &'static str,
     input: &'static str,
@@ -61,12 +62,13 @@ macro_rules! small {
 
 pub(crate) use small;
 
-/// A source is read into a buffer and assembled by 10 growths. A hill is created by 5, the members and an arena's four, after two for the
-/// name of its new file, and opened by these and the code of the one warrior, after one for the name of its folder if it is to be changed. One
-/// that is looked at is read into memory first. The hill of
-/// the old format that is moved to a file that is made has three warriors. A line that is answered takes one growth, before anything is
-/// done. Texts grow from 8 bytes to 16, 32 and 64, load text from 4. For a hill with another seed, a device and a hill on it are made in
-/// memory, and its warrior is written as a source and submitted by 34 growths. The matches of a trial take 16 after its answer.
+/// A source is read into a buffer and assembled by 10 growths. A hill is created by 5, the members and an arena's four,
+/// after two for the name of its new file, and opened by these and the code of the one warrior, after one for the name
+/// of its folder if it is to be changed. One that is looked at is read into memory first. The hill of the old format
+/// that is moved to a file that is made has three warriors. A line that is answered takes one growth, before anything
+/// is done. Texts grow from 8 bytes to 16, 32 and 64, load text from 4. For a hill with another seed, a device and a
+/// hill on it are made in memory, and its warrior is written as a source and submitted by 34 growths. The matches of a
+/// trial take 16 after its answer.
 static COMMANDS: [Command; 14] = commands! {
     1 + 10 + 5, 0, 0 => "koth asm", "MOV 0, 1\n" => "ORG 0\nMOV.I  $     0, $     1\nEND\n";
     11 + 11 + 4 + 1, 0, 0 => "koth fight growths.red growths.red --core=64 --cycles=100 --processes=8 --length=10 --distance=10 --rounds=2", ""

@@ -56,7 +56,7 @@ pub(crate) fn whole<'b>(rt: &impl AllocGlobal, input: &'b str) -> Streams<'b> {
     streams_of(rt, reader(input.as_bytes(), usize::MAX, 0), output, false)
 }
 
-/// The words of a command line, in which blanks stand between them.
+/// The words of a command line, in which blanks are between them.
 fn words_of(rt: &(impl Abort + AllocGlobal), line: &str) -> Vec<String> {
     let mut words = Vec::new(rt.alloc());
     for word in line.split(' ') {

@@ -7,8 +7,8 @@ use sector_disk::Device;
 use std::process::Abort;
 use tests_stores::{Counted, FIRST, ONE, TestMemory, close, create};
 
-/// A device in memory takes a growth at the first write to a sector, as of the header of a hill that is created. A warrior is placed on
-/// the hill that is created there then.
+/// A device in memory takes a growth at the first write to a sector, as of the header of a hill that is created. A
+/// warrior is placed on the hill that is created there then.
 fn expect_none_created<M: TestMemory>(rt: &impl Abort, memory: M, disks: M) {
     let device = new_in(rt, disks);
     disks.refuse(0, 1);
@@ -35,8 +35,8 @@ fn expect_empty<M: TestMemory>(rt: &impl Abort, memory: M, device: M::Device) {
     drop(store);
 }
 
-/// A growth of the device's memory, the first of these numbers, is refused while a warrior is submitted. The other one is that of the calls
-/// for which the device was asked.
+/// A growth of the device's memory, the first of these numbers, is refused while a warrior is submitted. The other one
+/// is that of the calls for which the device was asked.
 fn expect_refused<M: TestMemory>(rt: &impl Abort, memory: M, disks: M, growth: (u64, u64)) {
     let (k, calls) = growth;
     let mut store = created_on(rt, memory, new_in(rt, disks));
@@ -63,9 +63,9 @@ fn expect_no_more<M: TestMemory>(rt: &impl Abort, memory: M, disks: M) {
 /// Growths of the device's memory, and the calls that it was asked for if one of them is refused.
 static REFUSED: [(u64, u64); 5] = [(0, 5 + 1), (1, 5 + 2), (2, 5 + 3), (3, 5 + 4), (4, 5 + 6)];
 
-/// A warrior is placed by the first writes to the four sectors of a slot, and, after a sync, to a header's: five growths. The store whose
-/// device found no memory is as it was before, and so is the hill that is opened on its device. It calls its device no more: creating
-/// the hill made five calls.
+/// A warrior is placed by the first writes to the four sectors of a slot, and, after a sync, to a header's: five
+/// growths. The store whose device found no memory is as it was before, and so is the hill that is opened on its
+/// device. It calls its device no more: creating the hill made five calls.
 pub(super) fn expect_device_growths<M: TestMemory>(rt: &impl Abort, memory: M, disks: M) {
     expect_none_created(rt, memory, disks);
     for refused in &REFUSED {

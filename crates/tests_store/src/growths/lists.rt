@@ -6,8 +6,8 @@ use hill_store::{Reply, Store};
 use std::process::Abort;
 use tests_stores::{EMPTY, FIRST, REPLIES, SECOND, SOURCES, TestMemory, close, placed, submit_all};
 
-/// The sources are submitted to an empty hill, and this growth is refused, or none is: these are the replies. Each warrior that was placed
-/// is on the hill, and on the one that is opened on its device, and no other.
+/// The sources are submitted to an empty hill, and this growth is refused, or none is: these are the replies. Each
+/// warrior that was placed is on the hill, and on the one that is opened on its device, and no other.
 fn expect_list<M: TestMemory>(
     rt: &impl Abort,
     memory: M,
@@ -48,9 +48,10 @@ fn expect_no_list<M: TestMemory>(rt: &impl Abort, memory: M) {
 /// The reply to a second warrior that loses both rounds.
 const LOSES: Reply = placed!(2, 2, 0);
 
-/// Numbers of growths of the list, in their order, and the replies if one of them is refused, with the number of warriors placed: growths of
-/// the first source, of the device's writes for it, and so on. The third, without a line, takes none, and the fourth writes to a sector
-/// that was written before. A warrior that finds no memory leaves its entry and its place to the next. Nothing follows `Disk`.
+/// Numbers of growths of the list, in their order, and the replies if one of them is refused, with the number of
+/// warriors placed: growths of the first source, of the device's writes for it, and so on. The third, without a line,
+/// takes none, and the fourth writes to a sector that was written before. A warrior that finds no memory leaves its
+/// entry and its place to the next. Nothing follows `Disk`.
 static GROWTHS: [(u64, &[Reply], usize); 5] = [
     (10, &[Reply::Memory, FIRST, EMPTY, LOSES], 2),
     (5, &[Reply::Disk], 0),
@@ -59,7 +60,8 @@ static GROWTHS: [(u64, &[Reply], usize); 5] = [
     (10, &[FIRST, SECOND, EMPTY, Reply::Memory], 2),
 ];
 
-/// Each of `count` growths from growth `from` on is refused, and these are the replies. The growth after them is the answer.
+/// Each of `count` growths from growth `from` on is refused, and these are the replies. The growth after them is the
+/// answer.
 fn expect_each<M: TestMemory>(
     rt: &impl Abort,
     memory: M,

@@ -38,8 +38,8 @@ fn stinted<M: TestMemory>(rt: &impl Abort, memory: M, disk: M::Disk) -> M::Disk 
     memory.within(close(store))
 }
 
-/// The device has its memory from elsewhere. A store takes none once it has called its device, to create a hill and to submit, and an
-/// audit and the close take none at all.
+/// The device has its memory from elsewhere. A store takes none once it has called its device, to create a hill and to
+/// submit, and an audit and the close take none at all.
 pub(super) fn expect_none_after_a_call<M: TestMemory>(rt: &impl Abort, memory: M, disks: M) {
     let disk = stinted(rt, memory, blank_in(rt, disks));
     expect_same(rt, &memory.refused(), &0, "growths after a call refused");
