@@ -8,7 +8,7 @@ use crate::page_file::write_page;
 use crate::pair::{Pair, answer_none, pair_from};
 use crate::rounds::first_round;
 use koth_commands::trouble::Trouble;
-use koth_commands::{Answer, Status, deliver, refuse_settings};
+use koth_commands::{Answer, Reason, Status, deliver, refuse_settings};
 use koth_replay::{Story, story_of};
 use koth_watch::{Told, round_page};
 use koth_words::{Round, View, Watched};
@@ -237,8 +237,10 @@ fn put_page<'w, R: Files, A: Allocator + Copy>(
 {
     match page {
         Some(path) if matches!(answer.status, Status::Done) => {
-            if let Err(reason) = write_page(rt, alloc, path, answer.text.as_slice()) {
-                return Err(Trouble::file(path, reason));
+            match write_page(rt, alloc, path, answer.text.as_slice()) {
+                Ok(()) => {}
+                Err(Reason::Memory) => return Err(Trouble::memory()),
+                Err(reason) => return Err(Trouble::file(path, reason)),
             }
             answer.text.clear();
             Ok(())

@@ -3,8 +3,8 @@ use Rattle.std.specs.Prelude.{◌≡◌, ◌⊎◌, Bool, true, Some, IfOk, code
 use Rattle.koth_hill.specs.{Kept.{Kept, AreTrue}, declared.untrue.Untrue.Untrue}
 use Rattle.{koth_words.specs.declared.requests.View.View, koth_commands.specs.Answer.AnswerParts, koth_keeping.specs.{Answers.{Outcome, SaysLine}, Audit.{IsAudited, audit_answer}}}
 
--- the answer to copying this hill, if it is to be audited or not: the line of a copy, and then each of its results is
--- its match's; or what an audit found
+-- the answer to copying this hill, if it is to be audited or not: the line of a copy, and then each of its results is its match's; or what an
+-- audit found
 abbrev pub CopiesOf : Kept → Bool → AnswerParts → Type 0
 CopiesOf hill audit answer =
     ((audit ≡ true → AreTrue hill) × SaysLine (codes "COPIED\n") answer)

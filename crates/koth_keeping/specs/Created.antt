@@ -12,8 +12,8 @@ SaysCreated hint answer = answer ≡ answer_parts Status.Done (codes "CREATED\n"
 abbrev pub MayMake : List ℕ → RawSettings → Outcome → Type 0
 MayMake hint given outcome = AnswersGiven (λ s. Answers (SaysCreated hint)) (settings_of given) outcome
 
--- What `create` answers, with a hint if the settings that are given have the default seed. If the seed is drawn, in
--- place of theirs, there is no hint, and the source of random numbers may fail.
+-- What `create` answers, with a hint if the settings that are given have the default seed. If the seed is drawn, in place
+-- of theirs, there is no hint, and the source of random numbers may fail.
 abbrev pub MayCreate : Bool → RawSettings → Outcome → Type 0
 MayCreate false given outcome = MayMake (seed_hint given.seed) given outcome
 MayCreate true given outcome = ((seed : ℕ) × IsSeed seed × MayMake [] (record given { seed = seed }) outcome) ⊎ IsErrAnd outcome IsOfHill

@@ -1,7 +1,7 @@
 -- What `migrate` answers.
-use Rattle.std.specs.{Prelude.{◌≡◌, ◌⊎◌, ℕ, Bool, true, false, List, Option, Some, Result, Ok, Err, codes}, Borrow.Bor}
+use Rattle.std.specs.{Prelude.{◌≡◌, ◌⊎◌, ℕ, List, Ok, Err, codes}, Borrow.Bor}
 use Rattle.{sector_disk.specs.Facts.DeviceFacts, hill_store.specs.{Opened.{IsMigrated, IsNotMigrated}, Seen.Seen, declared.migration.{MigrateFault.MigrateFault, MigrateSide.MigrateSide}}}
-use Rattle.{koth_words.specs.declared.requests.Migration.Migration, koth_commands.specs.{Cause.reason_told, Name.shown_name, Trouble.{about_told, no_memory}, declared.{cause.Reason.Reason, trouble.{Fault.Fault, Trouble.Trouble}}}}
+use Rattle.{koth_words.specs.declared.requests.Migration.Migration, koth_commands.specs.{Trouble.no_memory, declared.trouble.Trouble.Trouble}}
 use Rattle.{koth_files.specs.Trouble.refused_at, koth_keeping.specs.Answers.{Outcome, SaysLine}}
 
 abbrev pub migrated_line : List ℕ
@@ -30,37 +30,3 @@ pub record RefusesToMigrate {D : Type 0} (facts : DeviceFacts D) (files : Migrat
 abbrev pub MigratesTo : {D : Type 0} → DeviceFacts D → Migration → D → D → Outcome → Type 0
 MigratesTo facts files old new (Ok answer) = Migrates facts old new × SaysLine migrated_line answer
 MigratesTo facts files old new (Err trouble) = (trouble ≡ no_memory) ⊎ RefusesToMigrate facts files old new trouble
-
--- the file at this path is said to hold a hill of the new format
-pub record IsNewHill (path : List ℕ) (trouble : Trouble) : Type 0 where
-  pub fault : trouble.fault ≡ Fault.NotAHill
-  pub told : about_told trouble.about ≡ Some (reason_told (shown_name path) Reason.NewHill)
-
--- a fault says that a file holds a hill of the old format
-abbrev pub is_of_old_hill : Fault → Bool
-is_of_old_hill (Fault.Settings fault) = false
-is_of_old_hill Fault.TooSmall = false
-is_of_old_hill Fault.Occupied = false
-is_of_old_hill Fault.NotAHill = false
-is_of_old_hill Fault.OldHill = true
-is_of_old_hill Fault.Damaged = false
-is_of_old_hill Fault.Stream = false
-is_of_old_hill Fault.Memory = false
-
--- or that a warrior on a hill can't be read
-abbrev pub is_of_damage : Fault → Bool
-is_of_damage (Fault.Settings fault) = false
-is_of_damage Fault.TooSmall = false
-is_of_damage Fault.Occupied = false
-is_of_damage Fault.NotAHill = false
-is_of_damage Fault.OldHill = false
-is_of_damage Fault.Damaged = true
-is_of_damage Fault.Stream = false
-is_of_damage Fault.Memory = false
-
--- what is required of a file in which, for this fault, no hill of the new format was seen: that there is one of the old
--- format. Else this is told
-abbrev pub RequiresOld : List ℕ → Fault → Result (Unit {0}) Trouble → Type 0
-RequiresOld path fault (Ok none) = is_of_old_hill fault ≡ true
-RequiresOld path fault (Err trouble) =
-    (is_of_old_hill fault ≡ false) × (IsNewHill path trouble ⊎ ((is_of_damage fault ≡ false) × (trouble.fault ≡ fault)))

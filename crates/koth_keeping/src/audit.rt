@@ -16,9 +16,9 @@ use std::alloc::{AllocError, Allocator};
 use std::rt::Files;
 
 /// Fights every pair of the hill in a file again, and answers `true` if each result that is kept is its match's, else
-/// `false`; or that as a line of JSON. The note is then the first pair whose result isn't, by the younger warrior's
-/// entry and then the older's: their entries, the result that is kept, and that of their match, each as the rounds that
-/// the older won, that the younger won, and ties. The file is only read, and its lock is not taken.
+/// `false`; or that as a line of JSON. The note is then the first pair whose result isn't, by the younger warrior's entry and then the older's: their
+/// entries, the result that is kept, and that of their match, each as the rounds that the older won, that the younger won,
+/// and ties. The file is only read, and its lock is not taken.
 pub fn perform_audit<'p, R: Files, A: Allocator + Copy>(
     rt: &R,
     alloc: A,

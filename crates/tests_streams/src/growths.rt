@@ -29,7 +29,7 @@ struct Command {
     faults: u64,
     /// These, and the ones after them, whose refusal is answered as `MEMORY`.
     answers: u64,
-    /// These, and those after them, without which the answer is alone.
+    /// These, and those after them, without which the answer stands alone.
     growths: u64,
     line: &'static str,
     input: &'static str,
