@@ -31,18 +31,18 @@ _koth_takes() {
             kinds=('file')
             ;;
         'submit')
-            options='--wait --name --plain --table --format -h --help'
-            valued='--wait --name --format'
-            kinds=('file' 'source')
+            options='--wait --to --timeout --pipe --name --plain --table --format -h --help --like --preset -s --core -p --processes -l --length -d --distance -c --cycles -r --rounds --read-limit --write-limit --seed --capacity'
+            valued='--wait --to --timeout --name --format --like --preset -s --core -p --processes -l --length -d --distance -c --cycles -r --rounds --read-limit --write-limit --seed --capacity'
+            kinds=('source' 'source')
             ;;
         'show')
-            options='--matches --settings --with-seed --plain --table --format -h --help'
-            valued='--format'
+            options='--to --timeout --matches --settings --with-seed --plain --table --format -h --help'
+            valued='--to --timeout --format'
             kinds=('file')
             ;;
         'serve')
-            options='--port --peers --peers-per-address --steps --listen --connections --http --host --replays --quiet --create -h --help --preset -s --core -p --processes -l --length -d --distance -c --cycles -r --rounds --read-limit --write-limit --seed --capacity'
-            valued='--port --peers --peers-per-address --steps --listen --connections --http --host --preset -s --core -p --processes -l --length -d --distance -c --cycles -r --rounds --read-limit --write-limit --seed --capacity'
+            options='--port --peers --peers-per-address --steps --listen --connections --http --host --replays --title --peers-at --quiet --create -h --help --preset -s --core -p --processes -l --length -d --distance -c --cycles -r --rounds --read-limit --write-limit --seed --capacity'
+            valued='--port --peers --peers-per-address --steps --listen --connections --http --host --title --peers-at --preset -s --core -p --processes -l --length -d --distance -c --cycles -r --rounds --read-limit --write-limit --seed --capacity'
             kinds=('file')
             ;;
         'session')
@@ -68,6 +68,11 @@ _koth_takes() {
             valued='--name -o --output --round --like --preset -s --core -p --processes -l --length -d --distance -c --cycles -r --rounds --read-limit --write-limit --seed --capacity'
             kinds=('source' 'source')
             ;;
+        'trace')
+            options='--name --round --lost --won --tied --last --format -h --help --like --preset -s --core -p --processes -l --length -d --distance -c --cycles -r --rounds --read-limit --write-limit --seed --capacity'
+            valued='--name --round --last --format --like --preset -s --core -p --processes -l --length -d --distance -c --cycles -r --rounds --read-limit --write-limit --seed --capacity'
+            kinds=('source' 'source')
+            ;;
         'try')
             options='--name --plain --table --format -h --help'
             valued='--name --format'
@@ -81,6 +86,12 @@ _koth_takes() {
             options='--seed -h --help'
             valued='--seed'
             kinds=('file' 'file')
+            ;;
+        'rank')
+            options='--name --both --plain --table --format -h --help --like --preset -s --core -p --processes -l --length -d --distance -c --cycles -r --rounds --read-limit --write-limit --seed --capacity'
+            valued='--name --format --like --preset -s --core -p --processes -l --length -d --distance -c --cycles -r --rounds --read-limit --write-limit --seed --capacity'
+            kinds=('source')
+            further='source'
             ;;
         'help')
             kinds=('command')
@@ -105,6 +116,8 @@ _koth_value() {
         'create --like') kind='file' ;;
         'create --preset') kind='94nop tiny nano' ;;
         'submit --format') kind='text json' ;;
+        'submit --like') kind='file' ;;
+        'submit --preset') kind='94nop tiny nano' ;;
         'show --format') kind='text json' ;;
         'serve --preset') kind='94nop tiny nano' ;;
         'audit --format') kind='text json' ;;
@@ -112,7 +125,13 @@ _koth_value() {
         'replay --output') kind='file' ;;
         'replay --like') kind='file' ;;
         'replay --preset') kind='94nop tiny nano' ;;
+        'trace --format') kind='text json' ;;
+        'trace --like') kind='file' ;;
+        'trace --preset') kind='94nop tiny nano' ;;
         'try --format') kind='text json' ;;
+        'rank --format') kind='text json' ;;
+        'rank --like') kind='file' ;;
+        'rank --preset') kind='94nop tiny nano' ;;
         *[\<\>]) kind='file' ;;
     esac
 }
@@ -139,7 +158,7 @@ _koth_read() {
 }
 
 _koth() {
-    local names='asm check fight create submit show serve session audit migrate page replay try copy reseed help'
+    local names='asm check fight create submit show serve session audit migrate page replay trace try copy reseed rank help'
     local word=${COMP_WORDS[COMP_CWORD]} options valued kinds further kind command='' owner='' ended='' count=0
     [[ $word == '=' ]] && word=''
     _koth_takes ''

@@ -2,7 +2,7 @@
 report."""
 
 from . import pmars
-from .checks import Checks, say
+from .checks import Checks, Given, say, script
 from .crates import crates
 from .hills import BOMBER, NAMES, Hill, create, warriors
 from .peer import Peer
@@ -11,7 +11,7 @@ from .program import NOT_TRIED, ROOT, SCRIPT, arguments, contents, data, write
 from .service import Service
 
 __all__ = [
-    "BOMBER", "Checks", "Hill", "NAMES", "NOT_TRIED", "PATIENCE", "Peer", "ROOT", "Result", "SCRIPT", "Service",
-    "arguments", "children_seconds", "contents", "crates", "create", "data", "kib_of", "limit_memory", "output_of",
-    "pmars", "run", "say", "seconds_of", "warriors", "write",
+    "BOMBER", "Checks", "Given", "Hill", "NAMES", "NOT_TRIED", "PATIENCE", "Peer", "ROOT", "Result", "SCRIPT",
+    "Service", "arguments", "children_seconds", "contents", "crates", "create", "data", "kib_of", "limit_memory",
+    "output_of", "pmars", "run", "say", "script", "seconds_of", "warriors", "write",
 ]

@@ -1,12 +1,13 @@
 """Counts what is as expected, and reports what is not."""
 
+import argparse
 import functools
 import os
 import subprocess
 import sys
 import typing
 
-from .program import NOT_TRIED
+from .program import NOT_TRIED, ROOT, arguments, contents, write
 
 NAME = f"bench/{os.path.basename(sys.argv[0])}"
 
@@ -50,11 +51,23 @@ class Checks:
         except (OSError, subprocess.SubprocessError, ValueError) as failure:
             self.fault(what, repr(failure))
 
-    def trials(self, trials: typing.Mapping[str, typing.Callable[..., str]], *given: object) -> typing.NoReturn:
-        """Makes these trials with what is given, and ends the script."""
+    def trials(self, trials: typing.Mapping[str, typing.Callable[..., str]], *given: object) -> None:
+        """Makes these trials with what is given."""
         for what, trial in trials.items():
             self.trial(what, functools.partial(trial, *given))
-        self.end()
+
+    def made(self, path: str, text: str | bytes, is_written: bool) -> bool:
+        """Counts whether this file, below the repository, is what the script makes. It is written first, if that is
+        asked for."""
+        content, place = text.encode() if isinstance(text, str) else text, f"{ROOT}/{path}"
+        if is_written:
+            write(place, content)
+        there = contents(place) if os.path.isfile(place) else b""
+        lines = there.split(b"\n"), content.split(b"\n")
+        at = len(os.path.commonprefix(lines))
+        old, new = (it[at][:200] if at < len(it) else b"" for it in lines)
+        fault = f"{path} isn't what is made, first in line {at + 1}: {old!r}, and not {new!r}; {NAME} --write"
+        return self.that(there == content, fault)
 
     def end(self) -> typing.NoReturn:
         """Ends the script with the count as its last line. The status is 1 if a check failed or none was made, else 77
@@ -63,3 +76,22 @@ class Checks:
         say(f"{self.found.count(True)} as expected, {failed} not" + f", {self.not_tried} not tried"
             * bool(self.not_tried))
         sys.exit(1 if failed or not (self.found or self.not_tried) else NOT_TRIED if self.not_tried else 0)
+
+
+Given = argparse.Namespace
+Main = typing.Callable[[Checks, Given], object]
+
+
+def script(text: str | None, places: dict[str, type] | None = None, **options: typing.Any
+           ) -> typing.Callable[[Main], Main]:
+    """Runs the function below it, if the file is the script that is called: with checks, whose count ends the script,
+    and with what the script was given, by `arguments`."""
+
+    def run_of(main: Main) -> Main:
+        if main.__module__ == "__main__":
+            checks, given = Checks(), arguments(text, places, **options)
+            main(checks, given)
+            checks.end()
+        return main
+
+    return run_of

@@ -13,6 +13,7 @@ from .peer import PATIENCE, Peer
 
 PAGES = re.compile(r"\S+ pages at (http://127\.0\.0\.1:(\d+)/)\n")
 LOGGED = re.compile(r"\S+ 127\.0\.0\.1:(\d+): (.*)")
+TITLED = re.compile(r'(PLACED \d+ \d+ \d+) ".*')
 
 
 class Service:
@@ -97,6 +98,11 @@ class Service:
         with contextlib.suppress(subprocess.TimeoutExpired):
             self.process.wait(PATIENCE)
         return by_port(self.end() if self.process.poll() is None else self.wait())
+
+
+def untitled(line: str) -> str:
+    """A line of a log without the titles of warriors."""
+    return TITLED.sub(r"\1", line)
 
 
 def by_port(log: str) -> dict[int, list[str]]:

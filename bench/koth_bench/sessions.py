@@ -18,8 +18,10 @@ import typing
 
 from . import peer
 from .checks import say
+from .grammar import Grammar
 from .processes import kib_of, run
 from .program import contents, write
+from .rows import rows
 from .service import Service
 
 SECTOR = 512
@@ -36,15 +38,9 @@ NUMBER = rb"(0|[1-9][0-9]*)"
 ENTRY = re.compile(rb"PLACED %b %b %b|FELL %b %b" % ((NUMBER,) * 5))
 ROW = re.compile(rb"%b %b %b %b [ -~]+ by [ -~]+" % ((NUMBER,) * 4))
 TITLE_LINES = 2
-# Sources that are refused: their lines after those of the title, the line of these that is to blame, and the kind.
-REFUSED = [
-    (b"", 0, b"Empty"), (b"MVO 0, 1\n", 1, b"BadOperation"), (b"JMP 0\nJMP\n", 2, b"MissingOperand"),
-    (b"DAT x\n", 1, b"UnknownName"), (b"DAT 0\nDAT 1/0\n", 2, b"DivideByZero"),
-    (b"x DAT 0\nx DAT 0\n", 2, b"DuplicateName"), (b"FOR 3\nDAT 0\n", 1, b"UnmatchedFor"),
-    (b"DAT 0\n" * (LENGTH + 1), 0, b"TooLong"), (b"DAT 0\n=\n", 2, b"BadToken"), (b"DAT 0\nEND 1\n", 2, b"BadStart"),
-    (b"STP 0, 1\n", 1, b"Pspace"), (b"FOR 4097\nROF\n", 1, b"ForLimit"), (b"DAT 0\n;assert 0\n", 2, b"AssertFalse"),
-    (b"; words\n" * 8192, 0, b"SourceTooLong"),
-]
+WARRIORS = Grammar("load")
+# the lines of sources that are refused, after those of the title, the line of these that is to blame, and the kind
+REFUSED = rows("load_refused")["refused"]
 
 
 class Source(typing.NamedTuple):
@@ -89,25 +85,10 @@ class Maker:
     def __init__(self, seed: int, number: int) -> None:
         self.random, self.number, self.made = random.Random(f"{seed} {number}"), number, 0
 
-    def imp(self) -> bytes:
-        return b"MOV 0, 1\n" if self.random.random() < 0.5 else b"SPL 0\nMOV 0, 1\n"
-
-    def dwarf(self) -> bytes:
-        step = self.random.choice([3, 4, 4, 5, 7, 8, 12, self.random.randrange(1, CORE)])
-        return b"ADD #%d, 3\nMOV 2, @2\nJMP -2\nDAT #0, #%d\n" % (step, self.random.randrange(CORE))
-
-    def paper(self) -> bytes:
-        copies = b"SPL 1\n" * self.random.randrange(1, 4)
-        return copies + b"SPL @0, %d\nMOV }-1, >-1\nMOV }-2, >-2\n" % self.random.randrange(20, CORE)
-
-    def sitter(self) -> bytes:
-        sitting = b"JMP 0, <-%d\n" % self.random.randrange(2, 9)
-        return self.random.choice([b"DAT 0\n", b"JMP 0\n", b"SPL 0\nJMP -1\n", sitting])
-
     def shooter(self) -> bytes:
         """Writes to where the other one is if it is the older one: so it beats most that are on the hill, and later
         ones beat it."""
-        shots, rest = self.random.randrange(1, 9), self.random.choice([b"JMP 0\n", b"MOV 0, 1\n", self.dwarf()])
+        shots, rest = self.random.randrange(1, 9), WARRIORS.make(self.random, "rest of a shooter")
         bomb = shots + rest.count(b"\n")
         aims = [self.random.choice(places()) - self.random.randrange(shots + 1) for _ in range(shots)]
         return b"".join(b"MOV %d, %d\n" % (bomb - at, -aim - at) for at, aim in enumerate(aims)) + rest + b"DAT 0\n"
@@ -115,20 +96,20 @@ class Maker:
     def titled(self, body: bytes, refusal: bytes = b"") -> Source:
         """A source with these lines after a title that no other has."""
         self.made += 1
-        name = self.random.choice([b"W%d.%d", b"%d of %d", b"by %d by %d", b"W ; %d  %d"]) % (self.number, self.made)
-        author = self.random.choice([b"load", b"A by B", b""])
+        name = WARRIORS.make(self.random, "name") % (self.number, self.made)
+        author = WARRIORS.make(self.random, "author")
         text = b";name %b\n;author %b\n%b" % (name, author, body)
         return Source(text, b"%b by %b" % (name, author or b"Anonymous"), refusal)
 
     def warrior(self) -> Source:
-        kinds = [self.imp, self.dwarf, self.paper, self.sitter, self.shooter]
-        return self.titled(self.random.choices(kinds, [1, 2, 1, 2, 4])[0]())
+        is_shooter = self.random.random() < 0.4
+        return self.titled(self.shooter() if is_shooter else WARRIORS.make(self.random, "warrior"))
 
     def source(self) -> Source:
         if self.random.random() < 0.85:
             return self.warrior()
         body, line, kind = self.random.choice(REFUSED)
-        return self.titled(body, b"REFUSED %d %b" % (line + TITLE_LINES if line else 0, kind))
+        return self.titled(body, b"REFUSED %d %b" % (int(line) + TITLE_LINES if int(line) else 0, kind))
 
     def connection(self, kind: str) -> Connection:
         """A connection of this kind."""

@@ -15,7 +15,7 @@ from .hills import Hill
 from .peer import Peer
 from .processes import kib_of, output_of, run, seconds_of
 from .program import NOT_TRIED, contents, write
-from .service import Service, by_port
+from .service import Service, by_port, untitled
 
 # A service that answers each line with itself, then a line of its log, and ends when its peer does.
 ECHO = """#!/usr/bin/env python3
@@ -133,6 +133,7 @@ class Services(unittest.TestCase):
     def test_lines_of_a_log(self) -> None:
         log = "T 127.0.0.1:7: connected\nT pages at x\nT 127.0.0.1:7: ended\nT 127.0.0.1:8: connected\n"
         self.assertEqual(by_port(log), {7: ["connected", "ended"], 8: ["connected"]})
+        self.assertEqual(untitled('PLACED 3 1 9 "A" by "B", pushed 2 "C" by "D"'), "PLACED 3 1 9")
 
 
 class Rules(unittest.TestCase):

@@ -61,6 +61,14 @@ pub enum Reason {
     NoRoom,
     /// There was no answer in time.
     Late,
+    /// The name of a machine is not known.
+    NoName,
+    /// The machine isn't reached.
+    Unreached,
+    /// Nothing is served at the port.
+    NoService,
+    /// The connection ended without an answer.
+    NoAnswer,
     /// The file is too short for its hill.
     TooShort,
     /// The file isn't empty.
@@ -128,6 +136,10 @@ impl Reason {
             Reason::ReaderGone => "its reader is gone",
             Reason::NoRoom => "no more can be written",
             Reason::Late => "there was no answer in time",
+            Reason::NoName => "its name is not known",
+            Reason::Unreached => "it can't be reached",
+            Reason::NoService => "nothing is served there",
+            Reason::NoAnswer => "no answer came",
             Reason::TooShort => "it is too short for a hill; is it the right file?",
             Reason::NotEmpty =>
                 "it isn't empty; koth create --overwrite makes a hill of it all the same",

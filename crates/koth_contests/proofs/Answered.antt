@@ -30,6 +30,12 @@ module _ (s : RawSettings) (view : View) (IsTold : List ℕ → Type 0) (IsNothi
   answers_none (Ok a) is = none_as a.status a.text a.note is
   answers_none (Err trouble) is = is
 
+  -- the answer if there is nothing to write but a note
+  pub nothing_answers : (r : Result AnswerParts Trouble) → MatchResult r (λ a. (a.status ≡ Status.Refused) × (a.text ≡ [])) (λ trouble. trouble ≡ no_memory)
+      → IsNothing → MatchResult r (IsAnswer s view IsTold IsNothing) IsReadFault
+  nothing_answers (Ok a) (refused, none) nothing = subst (λ t. AnswersAs s view IsTold IsNothing t a.text a.note) (sym refused) (inr (nothing, none))
+  nothing_answers (Err trouble) is nothing = inr is
+
   -- what is told of a match is also told in another sense
   so_as : (IsSo : List ℕ → Type 0) → ((text : List ℕ) → IsTold text → IsSo text) → (status : Status) (text note : List ℕ)
       → AnswersAs s view IsTold IsNothing status text note → AnswersAs s view IsSo IsNothing status text note

@@ -52,11 +52,11 @@ IsAlone both each words word = (each ≡ true) ⊎ ((words ≡ word ∷ []) × (
 abbrev pub MayBeMany : Bool → List Source → Type 0
 MayBeMany each words = each ≡ true → words ≡ []
 
--- how `fight` ends under settings, in this view: with the match of two sources, which is told alone, or with the
--- matches of one against many
+-- how `fight` ends under settings, in this view: with the match of two sources, which is told alone, and if its rounds
+-- are asked for maybe with nothing but a note; or with the matches of one against many
 abbrev pub EndsFightUnder : RawSettings → Fighters → View → Status → Option (List ℕ) → Option (List ℕ) → Option (List ℕ) → Option (List ℕ) → Type 0
 EndsFightUnder s given view status o p e f =
-    ((word : Source) × IsAlone given.both given.each given.opponents.items word × EndsMatch s view (IsFought s given.older word given.each view) ⊥ status o p e f)
+    ((word : Source) × IsAlone given.both given.each given.opponents.items word × EndsMatch s view (IsFought s given.older word given.each view) (given.each ≡ true) status o p e f)
     ⊎ (MayBeMany given.each given.opponents.items
     × EndsMany s given.older given.opponents.items (record { both = given.both; view = view }) status o p e f)
 

@@ -8,6 +8,5 @@ pub mod Pair
 -- One warrior against others.
 pub mod Met
 pub mod Opponents
--- What each command writes and how it ends.
+-- What `fight` writes and how it ends.
 pub mod Fight
-pub mod Replay

@@ -1,7 +1,7 @@
 //! The command `fight`: from the sources of a warrior and of its opponents to the counts of their matches.
 
-ghost use Rattle.std.specs.Prelude.{◌≡◌, None, IfOk, MatchOption, MatchResult};
-ghost use Rattle.{war_types.specs.Settings.settings_of, koth_commands.specs.{Pair.IsWarriorOf, Streams.{source_name, streams}, Trouble.IsReadFault}};
+ghost use Rattle.std.specs.Prelude.{◌≡◌, [], true, None, IfOk, MatchOption, MatchResult};
+ghost use Rattle.{war_types.specs.Settings.settings_of, koth_commands.specs.{Pair.IsWarriorOf, Streams.{source_name, streams}, Trouble.{no_memory, IsReadFault}}};
 ghost use Rattle.koth_contests.specs.{Lines.entrant, Fight.{bout_line, bout_text, EndsFight, EndsFightUnder, EndsMany, IsAlone, IsFoughtOf, IsToldOf, MayBeMany}, Pair.{ArePairOf, IsAnswer}};
 
 use crate::lines::{contender, contest_line};
@@ -22,6 +22,10 @@ use war_types::{RawSettings, Settings, Warrior};
 
 /// Most opponents that are met: more don't fit the memory.
 const MOST_OPPONENTS: usize = 4_294_967_296;
+
+/// What is told if rounds are asked for of a folder.
+const NO_ROUNDS: &[u8] =
+    b"error: the argument '--each' takes one opponent, and no folder\n\nFor more information, try '--help'.\n";
 
 /// Plays the matches of a warrior against its opponents, under the settings that are given, and writes their counts.
 /// Settings that are out of their ranges are refused before anything is read. Of two sources it writes the counts of
@@ -82,7 +86,8 @@ fn lone_opponent<'w, R: Files>(rt: &R, fighters: &Fighters<'w>) -> Option<Source
     }
 }
 
-/// Plays the match of the older warrior and of `younger`, and answers its counts or its rounds.
+/// Plays the match of the older warrior and of `younger`, and answers its counts or its rounds. If rounds are asked for
+/// of a folder, which may have many opponents, nothing is read, and the note says so.
 fn fight_two<'f, R: Files, A: Allocator + Copy, I: Read>(
     rt: &R,
     alloc: A,
@@ -94,8 +99,11 @@ fn fight_two<'f, R: Files, A: Allocator + Copy, I: Read>(
 ) -> Result<Answer<A>, Trouble<'f>>
     ensures { MatchResult result (IsAnswer settings.now view
         (IsFoughtOf settings.now fighters.now.older younger.entry fighters.now.each view
-        (I.remaining input.old) (I.remaining input.new)) ⊥) IsReadFault }
+        (I.remaining input.old) (I.remaining input.new)) (fighters.now.each ≡ true)) IsReadFault }
 {
+    if is_folder_of_rounds(rt, fighters.each, younger) {
+        return no_rounds(alloc);
+    }
     let older = fighters.older;
     match pair_from(rt, alloc, settings, older, younger, input) {
         Ok(pair) => match text_of(alloc, settings, older, younger, &pair, fighters.each, view) {
@@ -104,6 +112,27 @@ fn fight_two<'f, R: Files, A: Allocator + Copy, I: Read>(
         },
         Err(none) => answer_none(alloc, settings, none, view),
     }
+}
+
+/// Whether rounds are asked for of a folder.
+fn is_folder_of_rounds<R: Files>(rt: &R, each: bool, younger: Source<'_>) -> bool
+    ensures { result ≡ true → each ≡ true }
+{
+    each && is_folder(rt, younger)
+}
+
+/// The answer if rounds are asked for of a folder.
+fn no_rounds<'t, A: Allocator + Copy>(alloc: A) -> Result<Answer<A>, Trouble<'t>>
+    ensures { MatchResult result (λ answer. (answer.status ≡ Status.Refused) × (answer.text ≡ []))
+        (λ trouble. trouble ≡ no_memory) }
+{
+    let mut note = Vec::new(alloc);
+    note.extend_from_slice(NO_ROUNDS)?;
+    Ok(Answer {
+        status: Status::Refused,
+        text: Vec::new(alloc),
+        note,
+    })
 }
 
 /// Plays the match of two warriors, and gives the text of its counts or of its rounds.

@@ -183,8 +183,8 @@ fn put_columns<A: Allocator>(line: &mut Vec<u8, A>, tally: Tally) -> Result<(), 
     )
 }
 
-/// Puts the name of a warrior, and what its file is called.
-fn put_both_names<A: Allocator>(
+/// Puts the name of a warrior, and what its file is called. The error is lack of memory.
+pub fn put_both_names<A: Allocator>(
     line: &mut Vec<u8, A>,
     name: &[u8],
     file: &str,
@@ -196,7 +196,8 @@ fn put_both_names<A: Allocator>(
     put_name(line, file)
 }
 
-fn put_file<A: Allocator>(line: &mut Vec<u8, A>, file: &str) -> Result<(), AllocError>
+/// Puts what a file is called, after the numbers of its line. The error is lack of memory.
+pub fn put_file<A: Allocator>(line: &mut Vec<u8, A>, file: &str) -> Result<(), AllocError>
     ensures { OnOk result (line.new.items ≡ line.old.items ++ opponent_told file.now) }
 {
     line.extend_from_slice(b" ")?;

@@ -15,9 +15,9 @@ use war_types::{AsmFault, AsmKind, Settings, Warrior};
 
 /// Two warriors that may fight.
 #[derive(Drop)]
-pub(crate) struct Pair<A: Allocator> {
-    pub(crate) older: Warrior<A>,
-    pub(crate) younger: Warrior<A>,
+pub struct Pair<A: Allocator> {
+    pub older: Warrior<A>,
+    pub younger: Warrior<A>,
 }
 
 /// Why there is no warrior.
@@ -31,7 +31,7 @@ pub enum NoWarrior<'f, A: Allocator> {
 
 /// The warriors that two sources assemble to. The older one is read and assembled before the younger one's file is
 /// opened.
-pub(crate) fn pair_from<'f, R: Files, A: Allocator + Copy, I: Read>(
+pub fn pair_from<'f, R: Files, A: Allocator + Copy, I: Read>(
     rt: &R,
     alloc: A,
     settings: &Settings,
@@ -99,7 +99,7 @@ fn warrior_of<'f, A: Allocator + Copy, I: Read>(
 
 /// The answer if there is no warrior: the line of a refusal, and where in the source it is and why; or its line of
 /// JSON.
-pub(crate) fn answer_none<'f, A: Allocator + Copy>(
+pub fn answer_none<'f, A: Allocator + Copy>(
     alloc: A,
     settings: &Settings,
     none: NoWarrior<'f, A>,

@@ -205,7 +205,7 @@ fn put_columns<A: Allocator>(text: &mut Vec<u8, A>, played: Played) -> Result<()
 }
 
 /// A side as the command line has it.
-fn side_name(side: Side) -> &'static str
+pub fn side_name(side: Side) -> &'static str
     ensures { result.now ≡ side_name side }
 {
     match side {

@@ -51,6 +51,10 @@ damaged_at path entry =
 abbrev pub old_hill_at : Bor (List ℕ) → Trouble
 old_hill_at path = told_at path Fault.OldHill Reason.OldHill
 
+-- it holds one of the new format
+abbrev pub new_hill_at : Bor (List ℕ) → Trouble
+new_hill_at path = told_at path Fault.NotAHill Reason.NewHill
+
 -- it is no refusal of settings
 abbrev pub IsOfHill : Trouble → Type 0
 IsOfHill trouble = is_of_settings trouble.fault ≡ false

@@ -1,7 +1,7 @@
 //! Why a hill's file can't be worked on.
 
 ghost use Rattle.std.specs.Prelude.{◌≡◌, ◌↔◌, IsTrue};
-ghost use Rattle.koth_files.specs.Trouble.{damaged_at, locked_at, refused_at, told_at, unopened_at, IsLock, IsOfHill};
+ghost use Rattle.koth_files.specs.Trouble.{damaged_at, locked_at, new_hill_at, refused_at, told_at, unopened_at, IsLock, IsOfHill};
 
 use hill_file::OpenFault;
 use hill_store::Refusal;
@@ -59,6 +59,14 @@ pub(crate) fn damaged_at<'f>(path: &'f str, entry: u64) -> Trouble<'f>
         fault: Fault::Damaged,
         about: About::Cause(cause),
     }
+}
+
+/// The file at this path holds a hill of the new format.
+pub(crate) fn new_hill_at<'f>(path: &'f str) -> Trouble<'f>
+    ensures told { result ≡ new_hill_at path.entry }
+    ensures of_hill { IsOfHill result }
+{
+    told_at(path, Fault::NotAHill, Reason::NewHill)
 }
 
 /// Another program has the lock of the file of a hill at this path, to which a source is submitted, and had it for this

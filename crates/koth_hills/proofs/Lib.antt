@@ -4,5 +4,6 @@ mod Replies
 mod Rows
 mod Shown
 mod Sources
+mod Steps
 mod Tried
 mod Widths

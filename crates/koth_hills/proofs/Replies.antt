@@ -1,8 +1,8 @@
 -- The answer to a source.
 use Rattle.std.proofs.Common.{◌≡◌, ◌⊎◌, ◌∙◌, ℕ, List, [], Option, None, Some, Result, Ok, Err, OnErr, IfSome, false, true≢false, inl, inr, refl, ap, sym, subst}
-use Rattle.{war_types.specs.declared.fault.AsmFault.AsmFault, koth_hill.specs.Kept.Kept, sector_disk.specs.Facts.DeviceFacts, hill_store.specs.{Seen.{Seen, Submits}, declared.reply.Reply.Reply}}
+use Rattle.{war_types.specs.declared.fault.AsmFault.AsmFault, koth_hill.specs.{Kept.Kept, declared.verdict.Verdict.Verdict}, sector_disk.specs.Facts.DeviceFacts, hill_store.specs.{Seen.{Seen, Submits}, declared.reply.Reply.Reply}}
 use Rattle.{koth_words.specs.declared.requests.View.View, koth_views.specs.{Roster.roster, declared.entrants.Entered.Entered}, koth_commands.specs.{Answer.AnswerParts, declared.status.Status.Status}}
-use Rattle.koth_hills.specs.{Hills.{AnswersReply, IsOutcome, IsPlacing, IsReplyTo, SaysReply, Submitted}, Json.{AreMatches, IsRefused}, ReplyStatus.reply_status}
+use Rattle.koth_hills.specs.{Hills.{AnswersReply, IsPlacing, IsReplyTo, SaysReply, Submitted}, Json.{IsDue, IsRefused, settled_lines}, Placing.outcome_view, ReplyStatus.reply_status}
 
 -- a source that is refused, and one for which the device is worn out, end so
 pub refused-status : (reply : Reply) → ((fault : AsmFault) × (reply ≡ Reply.Refused fault)) ⊎ (reply ≡ Reply.Worn) → Status.Refused ≡ reply_status reply
@@ -12,23 +12,20 @@ refused-status reply is = elim is [
 ]
 
 -- what became of the warrior is written if it is known who stood on the hill
-pub is_placing : {V : Type 0} (items : V → List Entered) (view : View) (old new : Kept) (source : List ℕ) (reply : Reply) (stood : Option V) (more : List ℕ)
-    → IfSome stood (λ v. items v ≡ roster old) → (view ≡ View.Plain → more ≡ []) → (view ≡ View.Table → stood ≡ None → more ≡ [])
-    → (view ≡ View.Table → IfSome stood (λ v. (more ≡ []) ⊎ IsOutcome (items v) new source reply more))
-    → (view ≡ View.Json → (more ≡ []) ⊎ AreMatches new source reply more) → IsPlacing view old new source reply more
-is_placing items View.Plain old new source reply stood more known plain none some json = plain refl
-is_placing items View.Table old new source reply None more known plain none some json = inl (none refl refl)
-is_placing items View.Table old new source reply (Some v) more known plain none some json = elim (some refl) [
+pub is_placing : {V : Type 0} (items : V → List Entered) (view : View) (old new : Kept) (source : List ℕ) (reply : Reply) (judged : Option Verdict) (stood : Option V) (more : List ℕ)
+    → IfSome stood (λ v. items v ≡ roster old) → IfSome judged (IsDue old source) → (view ≡ View.Plain → more ≡ []) → (view ≡ View.Table → stood ≡ None → more ≡ [])
+    → (view ≡ View.Table → IfSome stood (λ v. (more ≡ []) ⊎ (more ≡ outcome_view (items v) new reply judged)))
+    → (view ≡ View.Json → (more ≡ []) ⊎ (more ≡ settled_lines new reply judged)) → IsPlacing view old new source reply more
+is_placing items View.Plain old new source reply judged stood more known due plain none some json = inl (plain refl)
+is_placing items View.Table old new source reply judged None more known due plain none some json = inl (none refl refl)
+is_placing items View.Table old new source reply judged (Some v) more known due plain none some json = elim (some refl) [
   | inl is ↦ inl is
-  | inr is ↦ inr (subst (λ r. IsOutcome r new source reply more) known is)
+  | inr is ↦ inr (judged, due, subst (λ r. more ≡ outcome_view r new reply judged) known is)
 ]
-is_placing items View.Json old new source reply stood more known plain none some json = json refl
-
--- without memory for it nothing is
-placed_none : (view : View) (old new : Kept) (source : List ℕ) (reply : Reply) → IsPlacing view old new source reply []
-placed_none View.Plain old new source reply = refl
-placed_none View.Table old new source reply = inl refl
-placed_none View.Json old new source reply = inl refl
+is_placing items View.Json old new source reply judged stood more known due plain none some json = elim (json refl) [
+  | inl is ↦ inl is
+  | inr is ↦ inr (judged, due, is)
+]
 
 -- what holds if there was no memory, seen another way
 pub on_err : {T E : Type 0} (result : Result T E) (P Q : Type 0) → (P → Q) → OnErr result P → OnErr result Q
@@ -41,7 +38,7 @@ module _ {D : Type 0} (facts : DeviceFacts D) (old new : Seen D) (source : List 
       → IsPlacing view old.hill new.hill source reply more → AnswersReply view reply more answer ⊎ AnswersReply view reply [] answer
       → Submitted facts old source new view answer
   submitted reply more answer submits placing (inl whole) = (reply, submits, (more, placing, whole))
-  submitted reply more answer submits placing (inr line) = (reply, submits, ([], placed_none view old.hill new.hill source reply, line))
+  submitted reply more answer submits placing (inr line) = (reply, submits, ([], inl refl, line))
 
   -- the reply of a store that was open, by its hills
   is_reply : (reply : Reply) → Submits facts old source reply new → old.reopen ≡ false → IsReplyTo old.hill source reply new.hill

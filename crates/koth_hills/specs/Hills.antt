@@ -1,35 +1,21 @@
 -- What the commands on a hill in a file answer, and how they end.
-use Rattle.std.specs.{Prelude.{◌≡◌, ◌≢◌, ◌⊎◌, ℕ, nat_lt, Bool, if◌then◌else◌, List, [], Option, ◌++◌, Ok, Err, codes}, Io.KnownBytes.Keeps}
+use Rattle.std.specs.{Prelude.{◌≡◌, ◌≢◌, ◌⊎◌, ℕ, nat_lt, Bool, if◌then◌else◌, List, [], Option, ◌++◌, Ok, Err, IfSome, codes}, Io.KnownBytes.Keeps}
 use Rattle.{war_types.specs.{Warrior.WarriorParts, declared.fault.AsmFault.AsmFault}, redcode_asm.specs.Assembly.assembly}
 use Rattle.{koth_hill.specs.{Kept.{Kept, table_kept}, declared.verdict.Verdict.Verdict}, sector_disk.specs.Facts.DeviceFacts}
 use Rattle.{hill_store.specs.{Earned.{kept_next, kept_reply}, Seen.{Seen, Submits}, declared.reply.Reply.Reply}, koth_session.specs.Reply.reply_line}
 use Rattle.koth_protocol.specs.{Matches.matches_text, Table.show_text}
 use Rattle.{koth_json.specs.Hill.hill_text, koth_words.specs.{Settings.given_as, declared.requests.Shown.Shown, declared.requests.View.View}}
-use Rattle.koth_views.specs.{Standing.hill_view, Matrix.matches_view, Placed.fell_text, Fallen.fallen_view, Roster.roster, declared.entrants.Entered.Entered}
+use Rattle.koth_views.specs.{Standing.hill_view, Matrix.matches_view, Roster.roster, declared.entrants.Entered.Entered}
 use Rattle.koth_commands.specs.{Answer.{AnswerParts, answer_parts}, Told.TellsWord, Streams.{From, Streams, Takes, TakesSome}, declared.status.Status.Status}
 use Rattle.{koth_files.specs.Trouble.IsOfHill, koth_keeping.specs.Answers.{Ends, Outcome}}
-use Rattle.koth_hills.specs.{Json.{AreMatches, IsDue, IsJsonText}, Placing.placing_view, ReplyStatus.reply_status, Settings.settings_text, Width.{longest_line, terminal_width}}
+use Rattle.koth_hills.specs.{Json.{IsDue, IsJsonText}, Placing.placing_view, ReplyStatus.reply_status, Settings.settings_text, Width.{longest_line, terminal_width}}
 
--- for people, that the warrior of a source fell, and then its matches with all on the hill
-pub record TellsFallen (new : Kept) (source : List ℕ) (reply : Reply) (text : List ℕ) : Type 0 where
-  pub entry : ℕ
-  pub score : ℕ
-  pub fell : reply ≡ Reply.Fell entry score
-  pub judged : Verdict
-  pub due : IsDue new source judged
-  pub told : text ≡ fell_text entry score ++ fallen_view new judged.bouts
-
--- for people, what became of the warrior of a source; if it fell with its matches, unless there was no memory to fight
--- them again
-abbrev pub IsOutcome : List Entered → Kept → List ℕ → Reply → List ℕ → Type 0
-IsOutcome stood new source reply text = (text ≡ placing_view stood new reply) ⊎ TellsFallen new source reply text
-
--- what stands after the line of a reply to a source that turned the old hill into the new one: for people what became
--- of its warrior, as lines of JSON its matches, unless there was no memory for that
+-- What stands after the line of a reply to a source that turned the old hill into the new one: for people what became
+-- of its warrior, as lines of JSON its matches, unless there was no memory for that. What is told of its matches is by
+-- the verdict that the source is due of the old hill.
 abbrev pub IsPlacing : View → Kept → Kept → List ℕ → Reply → List ℕ → Type 0
-IsPlacing View.Plain old new source reply more = more ≡ []
-IsPlacing View.Table old new source reply more = (more ≡ []) ⊎ IsOutcome (roster old) new source reply more
-IsPlacing View.Json old new source reply more = (more ≡ []) ⊎ AreMatches new source reply more
+IsPlacing view old new source reply more =
+    (more ≡ []) ⊎ ((judged : Option Verdict) × IfSome judged (IsDue old source) × (more ≡ placing_view view (roster old) new reply judged))
 
 -- the text of an answer to a source: the line of its reply and this text after it, and of a refusal as JSON a line that
 -- has the reason too

@@ -59,17 +59,18 @@ youngest_bouts results = unwrap_or (slice_get results (length results - 1)) []
 abbrev pub youngest_lines : ℕ → Kept → List ℕ
 youngest_lines entry hill = bout_lines entry hill.members (youngest_bouts hill.results)
 
--- what the warrior of a source is told that falls, under this entry
-abbrev pub AreFallenLines : Kept → List ℕ → ℕ → List ℕ → Type 0
-AreFallenLines hill source entry more = (judged : Verdict) × IsDue hill source judged × (more ≡ fallen_lines entry hill judged.bouts)
+-- what a warrior is told that fell under this entry, by its verdict
+abbrev pub fell_lines : ℕ → Kept → Option Verdict → List ℕ
+fell_lines entry hill None = []
+fell_lines entry hill (Some judged) = fallen_lines entry hill judged.bouts
 
--- what stands after the line of a reply to a source, by the hill after it: the matches of a warrior that was placed,
--- who is the youngest then, what one that fell is told, and else nothing
-abbrev pub AreMatches : Kept → List ℕ → Reply → List ℕ → Type 0
-AreMatches hill source (Reply.Placed entry rank score) more = more ≡ youngest_lines entry hill
-AreMatches hill source (Reply.Fell entry score) more = AreFallenLines hill source entry more
-AreMatches hill source (Reply.Refused fault) more = more ≡ []
-AreMatches hill source Reply.Memory more = more ≡ []
-AreMatches hill source Reply.Worn more = more ≡ []
-AreMatches hill source Reply.Disk more = more ≡ []
-AreMatches hill source Reply.Reopen more = more ≡ []
+-- what stands after the line of a reply, by the hill after it and the verdict of the submission: the matches of a
+-- warrior that was placed, which is the youngest then, what one that fell is told, and else nothing
+abbrev pub settled_lines : Kept → Reply → Option Verdict → List ℕ
+settled_lines hill (Reply.Placed entry rank score) judged = youngest_lines entry hill
+settled_lines hill (Reply.Fell entry score) judged = fell_lines entry hill judged
+settled_lines hill (Reply.Refused fault) judged = []
+settled_lines hill Reply.Memory judged = []
+settled_lines hill Reply.Worn judged = []
+settled_lines hill Reply.Disk judged = []
+settled_lines hill Reply.Reopen judged = []

@@ -1,9 +1,9 @@
 -- How the program ends with a reply.
 pub mod ReplyStatus
--- What became of a submission.
-pub mod Placing
 -- The lines of JSON of a submission.
 pub mod Json
+-- What became of a submission.
+pub mod Placing
 -- The settings of a hill, as options.
 pub mod Settings
 -- How wide a text is.

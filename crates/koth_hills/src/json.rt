@@ -2,9 +2,10 @@
 
 ghost use Rattle.std.specs.Prelude.{◌≡◌, ◌+◌, ◌≤◌, ◌++◌, decimal, length, IfOk, OnOk};
 ghost use Rattle.koth_json.specs.Reply.{fell_line, placed_line, worn_line};
-ghost use Rattle.koth_hills.specs.Json.{fallen_lines, json_line, judged_lines, least_lines, youngest_lines, AreFallenLines, AreMatches};
+ghost use Rattle.koth_hills.specs.Json.{fallen_lines, fell_lines, json_line, judged_lines, least_lines, settled_lines, youngest_lines};
 
-use hill_store::{Reply, Store};
+use crate::settled::Settled;
+use hill_store::Reply;
 use itoa::Buffer;
 use koth_hill::{Hill, Verdict};
 use koth_json::{put_bouts, put_least};
@@ -12,7 +13,6 @@ use koth_match::Bout;
 use koth_protocol::{Line, refusal_line};
 use koth_session::line_of;
 use koth_views::least_of;
-use sector_disk::Device;
 use std::alloc::{AllocError, Allocator};
 
 /// The line of a reply. It needs no memory.
@@ -75,19 +75,17 @@ fn put_short(line: &mut Line, number: u32)
 }
 
 /// What is after the line of a reply, by the hill after it: the matches of a warrior that was placed, and what one that
-/// fell is told. For that one its matches are fought once more.
-pub(crate) fn matches_lines<D: Device, A: Allocator + Copy>(
+/// fell is told. No match is fought.
+pub(crate) fn matches_lines<A: Allocator + Copy>(
     alloc: A,
-    store: &mut Store<D, A>,
-    source: &[u8],
-    reply: &Reply,
+    hill: &Hill<A>,
+    settled: &Settled,
 ) -> Result<Vec<u8, A>, AllocError>
-    ensures matches { IfOk result (λ text. AreMatches store.old.hill source.now reply.now text.items) }
-    ensures unchanged { store.new ≡ store.old }
+    ensures { IfOk result (λ text. text.items ≡ settled_lines hill.now settled.now.reply settled.now.judged) }
 {
-    match *reply {
-        Reply::Placed { entry, .. } => youngest_lines(alloc, store.hill(), entry),
-        Reply::Fell { entry, .. } => fell_lines(alloc, store, source, entry),
+    match settled.reply {
+        Reply::Placed { entry, .. } => youngest_lines(alloc, hill, entry),
+        Reply::Fell { entry, .. } => fell_lines(alloc, hill, entry, &settled.judged),
         Reply::Refused(_) | Reply::Memory | Reply::Worn | Reply::Disk | Reply::Reopen => {
             Ok(Vec::new(alloc))
         }
@@ -110,20 +108,18 @@ fn youngest_lines<A: Allocator + Copy>(
     Ok(lines)
 }
 
-/// What the warrior of a source is told that fell under this entry. The error comes also if there is no memory to fight
-/// its matches once more.
-fn fell_lines<D: Device, A: Allocator + Copy>(
+/// What a warrior is told that fell under this entry, by its verdict.
+fn fell_lines<A: Allocator + Copy>(
     alloc: A,
-    store: &mut Store<D, A>,
-    source: &[u8],
+    hill: &Hill<A>,
     entry: u64,
+    judged: &Option<Verdict>,
 ) -> Result<Vec<u8, A>, AllocError>
-    ensures fallen { IfOk result (λ text. AreFallenLines store.old.hill source.now entry text.items) }
-    ensures unchanged { store.new ≡ store.old }
+    ensures { IfOk result (λ text. text.items ≡ fell_lines entry hill.now judged.now) }
 {
-    match store.try_source(source, None) {
-        Some(Ok(judged)) => fallen_lines(alloc, store.hill(), entry, judged.bouts()),
-        Some(Err(_)) | None => Err(AllocError),
+    match judged {
+        Some(judged) => fallen_lines(alloc, hill, entry, judged.bouts()),
+        None => Ok(Vec::new(alloc)),
     }
 }
 

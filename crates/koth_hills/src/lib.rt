@@ -5,6 +5,7 @@
 //!
 //! - `damage`: what is reported about a header that can't be read, before the hill is opened;
 //! - `submit`, `trial`, `show`, `page`: a command each;
+//! - `settled`: a submission, whose matches are fought once, and the verdict that it had;
 //! - `outcome` and `json`: what became of a warrior, for people and as lines of JSON;
 //! - `settings`: the settings of a hill, as options that can be pasted, and `width`: how wide a text is;
 //! - `reply_status`: how the program ends with a reply.
@@ -23,6 +24,7 @@ mod outcome;
 mod page;
 mod reply_status;
 mod settings;
+mod settled;
 mod show;
 mod submit;
 mod trial;
@@ -31,5 +33,5 @@ mod width;
 pub use damage::tell_lost_header;
 pub use page::perform_page;
 pub use show::perform_show;
-pub use submit::perform_submit;
+pub use submit::{REPLY_LINE, SourceText, perform_submit, reply_answer};
 pub use trial::perform_try;

@@ -1,53 +1,100 @@
-//! What became of a warrior that was submitted, for people.
+//! What became of a warrior that was submitted: what is after the line of the reply.
 
-ghost use Rattle.std.specs.Prelude.{◌≡◌, ◌++◌, [], IfOk};
-ghost use Rattle.{koth_views.specs.{Fallen.fallen_view, Placed.fell_text}, koth_hills.specs.Hills.IsOutcome};
+ghost use Rattle.std.specs.Prelude.{◌≡◌, ◌⊎◌, ◌++◌, [], None, IfOk, IfSome};
+ghost use Rattle.{koth_views.specs.{Fallen.fallen_view, Placed.fell_text}, koth_hills.specs.{Json.settled_lines, Placing.{fell_view, outcome_view}}};
 
-use hill_store::{Reply, Store};
-use koth_hill::Hill;
+use crate::json::matches_lines;
+use crate::settled::Settled;
+use hill_store::Reply;
+use koth_hill::{Hill, Verdict};
 use koth_match::Bout;
 use koth_views::{Entered, Place, fallen_view, fell_text, placed_text};
-use sector_disk::Device;
+use koth_words::View;
 use std::alloc::{AllocError, Allocator};
 
-/// Where the warrior of a source is after this reply, or that it fell, and its matches. If it fell, the lowest
-/// points of those that stay too. `before` is the hill's roster from before the reply.
-pub(crate) fn outcome_text<D: Device, A: Allocator + Copy>(
+/// What is after the line of a reply: for people what became of the warrior, and as lines of JSON its matches, if there
+/// is memory for that; else nothing.
+pub(crate) fn placing_text<A: Allocator + Copy>(
+    alloc: A,
+    view: View,
+    before: &Option<Vec<Entered, A>>,
+    hill: &Hill<A>,
+    settled: &Settled,
+) -> Vec<u8, A>
+    ensures plain { view ≡ View.Plain → result.items ≡ [] }
+    ensures none { view ≡ View.Table → before.now ≡ None → result.items ≡ [] }
+    ensures some { view ≡ View.Table → IfSome before.now (λ stood. (result.items ≡ [])
+        ⊎ (result.items ≡ outcome_view stood.items hill.now settled.now.reply settled.now.judged)) }
+    ensures json { view ≡ View.Json → (result.items ≡ [])
+        ⊎ (result.items ≡ settled_lines hill.now settled.now.reply settled.now.judged) }
+{
+    match view {
+        View::Plain => Vec::new(alloc),
+        View::Table => told_text(alloc, before, hill, settled),
+        View::Json => match matches_lines(alloc, hill, settled) {
+            Ok(text) => text,
+            Err(AllocError) => Vec::new(alloc),
+        },
+    }
+}
+
+/// What became of the warrior of a submission, if it is known who stood on the hill before and there is memory for it;
+/// else nothing.
+fn told_text<A: Allocator + Copy>(
+    alloc: A,
+    before: &Option<Vec<Entered, A>>,
+    hill: &Hill<A>,
+    settled: &Settled,
+) -> Vec<u8, A>
+    ensures none { before.now ≡ None → result.items ≡ [] }
+    ensures some { IfSome before.now (λ stood. (result.items ≡ [])
+        ⊎ (result.items ≡ outcome_view stood.items hill.now settled.now.reply settled.now.judged)) }
+{
+    match before {
+        Some(before) => match outcome_text(alloc, before.as_slice(), hill, settled) {
+            Ok(text) => text,
+            Err(AllocError) => Vec::new(alloc),
+        },
+        None => Vec::new(alloc),
+    }
+}
+
+/// Where the warrior of a submission is on the hill after it, or that it fell, and its matches. If it fell, the lowest
+/// points of those that stay too. `before` is the hill's roster from before the submission. No match is fought.
+fn outcome_text<A: Allocator + Copy>(
     alloc: A,
     before: &[Entered],
-    store: &mut Store<D, A>,
-    source: &[u8],
-    reply: &Reply,
+    hill: &Hill<A>,
+    settled: &Settled,
 ) -> Result<Vec<u8, A>, AllocError>
-    ensures outcome { IfOk result (λ text. IsOutcome before.now store.old.hill source.now reply.now text.items) }
-    ensures unchanged { store.new ≡ store.old }
+    ensures { IfOk result (λ text. text.items
+        ≡ outcome_view before.now hill.now settled.now.reply settled.now.judged) }
 {
-    match *reply {
+    match settled.reply {
         Reply::Placed { entry, rank, score } => {
             let place = Place { entry, rank, score };
-            placed_text(alloc, before, store.hill(), place)
+            placed_text(alloc, before, hill, place)
         }
-        Reply::Fell { entry, score } => fallen_text(alloc, entry, score, store, source),
+        Reply::Fell { entry, score } => fallen_text(alloc, entry, score, hill, &settled.judged),
         Reply::Refused(_) | Reply::Memory | Reply::Worn | Reply::Disk | Reply::Reopen => {
             Ok(Vec::new(alloc))
         }
     }
 }
 
-/// That the warrior of a source fell, and its matches, which are fought once more.
-fn fallen_text<D: Device, A: Allocator + Copy>(
+/// That a warrior fell, and its matches by its verdict.
+fn fallen_text<A: Allocator + Copy>(
     alloc: A,
     entry: u64,
     score: u32,
-    store: &mut Store<D, A>,
-    source: &[u8],
+    hill: &Hill<A>,
+    judged: &Option<Verdict>,
 ) -> Result<Vec<u8, A>, AllocError>
-    ensures outcome { IfOk result (λ text. IsOutcome [] store.old.hill source.now (Reply.Fell entry score) text.items) }
-    ensures unchanged { store.new ≡ store.old }
+    ensures { IfOk result (λ text. text.items ≡ fell_view entry score hill.now judged.now) }
 {
-    match store.try_source(source, None) {
-        Some(Ok(judged)) => text_with_matches(alloc, entry, score, store.hill(), judged.bouts()),
-        Some(Err(_)) | None => fell_text(alloc, entry, score),
+    match judged {
+        Some(judged) => text_with_matches(alloc, entry, score, hill, judged.bouts()),
+        None => Ok(Vec::new(alloc)),
     }
 }
 

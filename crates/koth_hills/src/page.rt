@@ -1,13 +1,13 @@
 //! The command `page`: the page of the hill in a file.
 
 ghost use Rattle.std.specs.Prelude.{◌≡◌, IfOk};
-ghost use Rattle.{koth_page.specs.Page.hill_page, koth_keeping.specs.Answers.Answers, koth_hills.specs.Page.SaysPage};
+ghost use Rattle.{koth_page.specs.{Page.hill_page, Sign.untold}, koth_keeping.specs.Answers.Answers, koth_hills.specs.Page.SaysPage};
 
 use hill_store::Store;
 use koth_commands::trouble::Trouble;
 use koth_commands::{Answer, Status};
 use koth_files::look_hill;
-use koth_page::{Links, hill_page};
+use koth_page::{Links, Sign, TITLE, hill_page};
 use sector_disk::Device;
 use std::alloc::{AllocError, Allocator};
 use std::rt::Files;
@@ -38,7 +38,11 @@ fn page_text<D: Device, A: Allocator + Copy>(
     alloc: A,
     store: &Store<D, A>,
 ) -> Result<Vec<u8, A>, AllocError>
-    ensures { IfOk result (λ text. text.items ≡ hill_page store.now.hill Links.None) }
+    ensures { IfOk result (λ text. text.items ≡ hill_page store.now.hill untold Links.None) }
 {
-    hill_page(alloc, store.hill(), Links::None)
+    let sign = Sign {
+        title: TITLE,
+        address: None,
+    };
+    hill_page(alloc, store.hill(), &sign, Links::None)
 }

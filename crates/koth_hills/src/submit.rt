@@ -2,11 +2,12 @@
 
 ghost use Rattle.std.specs.Prelude.{◌≡◌, ◌+◌, ◌≤◌, ◌⊎◌, ◌++◌, [], false, None, IfOk, IfSome, OnErr, vec_capacity, vec_len};
 ghost use Rattle.{koth_views.specs.Roster.roster, koth_commands.specs.Streams.{From, is_input}};
-ghost use Rattle.koth_hills.specs.{Hills.{AnswersReply, AnswersSource, IsNote, IsOutcome, SaysReply, Submitted}, Json.{json_line, AreMatches, IsRefused}, ReplyStatus.reply_status};
+ghost use Rattle.koth_hills.specs.{Hills.{AnswersReply, AnswersSource, IsNote, SaysReply, Submitted}, Json.{json_line, IsRefused}, ReplyStatus.reply_status};
 
-use crate::json::{json_line, matches_lines};
-use crate::outcome::outcome_text;
+use crate::json::json_line;
+use crate::outcome::placing_text;
 use crate::reply_status::status_of;
+use crate::settled::settle;
 use hill_file::TryLock;
 use hill_store::{Reply, Store};
 use koth_commands::trouble::Trouble;
@@ -25,7 +26,7 @@ use std::rt::{Clock, Files};
 use war_types::{AsmFault, Settings};
 
 /// Bytes of the line of a reply at most.
-pub(crate) const REPLY_LINE: usize = 96;
+pub const REPLY_LINE: usize = 96;
 
 /// Submits a source to the hill in a file, and answers with the reply. The hill is opened before the source is read. If
 /// another program has its lock, that is tried again for as long as the arguments say. The reply to a warrior that is
@@ -98,7 +99,7 @@ fn submit_text_from<'s, D: Device, A: Allocator + Copy, I: Read>(
 
 /// The text of a source, and what messages call it.
 #[derive(Clone, Copy)]
-pub(crate) struct SourceText<'s> {
+pub struct SourceText<'s> {
     pub name: &'s str,
     pub text: &'s [u8],
 }
@@ -117,17 +118,17 @@ fn submit_source<D: Device, A: Allocator + Copy>(
 {
     let room = Vec::with_capacity(alloc, REPLY_LINE)?;
     let before = roster_for(alloc, view, store.hill());
-    let reply = store.submit(source.text);
-    let placing = placing_text(alloc, view, &before, store, source.text, &reply);
+    let settled = settle(store, source.text);
+    let placing = placing_text(alloc, view, &before, store.hill(), &settled);
     let settings = store.hill().settings();
     let more = placing.as_slice();
-    reply_answer(alloc, room, settings, source, view, &reply, more)
+    reply_answer(alloc, room, settings, source, view, &settled.reply, more)
 }
 
 /// The answer to a source: the line of the reply, in this room, and this text after it if there is memory for that. The
 /// note of a refusal is the place in the source and the reason, which its line of JSON has in place of a note; that
 /// alone needs memory.
-pub(crate) fn reply_answer<A: Allocator + Copy>(
+pub fn reply_answer<A: Allocator + Copy>(
     alloc: A,
     room: Vec<u8, A>,
     settings: &Settings,
@@ -258,56 +259,5 @@ fn roster_for<A: Allocator + Copy>(alloc: A, view: View, hill: &Hill<A>) -> Opti
     match view {
         View::Plain | View::Json => None,
         View::Table => roster(alloc, hill).ok(),
-    }
-}
-
-/// What is after the line of a reply: for people what became of the warrior of a source, and as lines of JSON its
-/// matches, if there is memory for that; else nothing.
-fn placing_text<D: Device, A: Allocator + Copy>(
-    alloc: A,
-    view: View,
-    before: &Option<Vec<Entered, A>>,
-    store: &mut Store<D, A>,
-    source: &[u8],
-    reply: &Reply,
-) -> Vec<u8, A>
-    ensures plain { view ≡ View.Plain → result.items ≡ [] }
-    ensures none { view ≡ View.Table → before.now ≡ None → result.items ≡ [] }
-    ensures some { view ≡ View.Table → IfSome before.now (λ stood. (result.items ≡ [])
-        ⊎ IsOutcome stood.items store.old.hill source.now reply.now result.items) }
-    ensures json { view ≡ View.Json → (result.items ≡ [])
-        ⊎ AreMatches store.old.hill source.now reply.now result.items }
-    ensures unchanged { store.new ≡ store.old }
-{
-    match view {
-        View::Plain => Vec::new(alloc),
-        View::Table => told_text(alloc, before, store, source, reply),
-        View::Json => match matches_lines(alloc, store, source, reply) {
-            Ok(text) => text,
-            Err(AllocError) => Vec::new(alloc),
-        },
-    }
-}
-
-/// What became of the warrior of a source, if it is known who stood on the hill before and there is memory for it; else
-/// nothing.
-fn told_text<D: Device, A: Allocator + Copy>(
-    alloc: A,
-    before: &Option<Vec<Entered, A>>,
-    store: &mut Store<D, A>,
-    source: &[u8],
-    reply: &Reply,
-) -> Vec<u8, A>
-    ensures none { before.now ≡ None → result.items ≡ [] }
-    ensures some { IfSome before.now (λ stood. (result.items ≡ [])
-        ⊎ IsOutcome stood.items store.old.hill source.now reply.now result.items) }
-    ensures unchanged { store.new ≡ store.old }
-{
-    match before {
-        Some(before) => match outcome_text(alloc, before.as_slice(), store, source, reply) {
-            Ok(text) => text,
-            Err(AllocError) => Vec::new(alloc),
-        },
-        None => Vec::new(alloc),
     }
 }

@@ -4,7 +4,7 @@ use Rattle.{std.proofs.Common.{codes, decimal, Bool, arith, length-append, inl, 
 use Rattle.std.proofs.{Math.ListN.take-append-drop, Math.Seq.{take-append_seam, drop-append-add}, lemmas.List.drop_all, lemmas.Bool.{cases_Bool, cases_lt, eq-eqb, ne_eqb, eqb-true, not-false}}
 use Rattle.std.proofs.{lemmas.Fmt.{decimal_by_steps, decimal_nonempty}, lemmas.List.Folds.{position_or_len_push, prefix_len-append}, lemmas.List.Sums.{prefix_len_stops, split_at_first}}
 use Rattle.std.proofs.{lemmas.Option.{none-some, same_Some}, lemmas.Slice.Eq.bytes_eq-Decides}
-use Rattle.{koth_http.specs.{Target.{IsPage, is_slash, number_of, page_of, round_by, round_of, target_for}, declared.target.Page.Page}, koth_http.proofs.Numbers.{number-found, number-reads}}
+use Rattle.{koth_http.specs.{Target.{IsPage, single_of, is_slash, number_of, or_round, page_of, round_by, round_of, target_for}, declared.target.Page.Page}, koth_http.proofs.Numbers.{number-found, number-reads}}
 
 -- ---- digits hold no slash
 
@@ -104,22 +104,47 @@ abbrev replay : List ℕ → Option Page
 replay path = if bytes_eq (take 8 path) (codes "/replay/") then round_of (drop 8 path) else None
 
 pub page-found : (page : Page) → IsPage page → page_of (target_for page) ≡ Some page
-unfolding page_of target_for
+unfolding page_of single_of target_for
 page-found Page.Hill is = refl
+page-found Page.Data is = refl
+page-found Page.Health is = refl
+page-found Page.Robots is = refl
+page-found Page.Icon is = refl
 page-found (Page.Round older younger round) is = round-found older younger round is.0 is.1 is.2
 
-pub page-reads : (path : List ℕ) (page : Page) → page_of path ≡ Some page → path ≡ target_for page
-unfolding page_of target_for
-page-reads path page is = elim (cases_Bool (bytes_eq path (codes "/"))) [
-  | inl hill ↦
-      (bytes_eq-Decides path (codes "/")).0 hill
-      ∙ ap target_for (same_Some Page.Hill page (sym (ap (λ b. if b then Some Page.Hill else replay path) hill) ∙ is))
-  | inr other ↦
-      let found : replay path ≡ Some page = sym (ap (λ b. if b then Some Page.Hill else replay path) other) ∙ is in
-      let (begins, rest) = cond_some_of (bytes_eq (take 8 path) (codes "/replay/")) (round_of (drop 8 path)) page found in
-      sym (take-append-drop 8 path) ∙ ap (λ l. l ++ drop 8 path) ((bytes_eq-Decides (take 8 path) (codes "/replay/")).0 begins)
-      ∙ round-reads (drop 8 path) page rest
+-- the first of some choices, or the rest of them
+chosen : (path text : List ℕ) (first page : Page) (others : Option Page) → text ≡ target_for first → (others ≡ Some page → path ≡ target_for page)
+    → (if bytes_eq path text then Some first else others) ≡ Some page → path ≡ target_for page
+chosen path text first page others written reads is = elim (cases_Bool (bytes_eq path text)) [
+  | inl same ↦
+      (bytes_eq-Decides path text).0 same ∙ written
+      ∙ ap target_for (same_Some first page (sym (ap (λ b. if b then Some first else others) same) ∙ is))
+  | inr other ↦ reads (sym (ap (λ b. if b then Some first else others) other) ∙ is)
 ]
+
+single-reads : (path : List ℕ) (page : Page) → single_of path ≡ Some page → path ≡ target_for page
+unfolding single_of target_for
+single-reads path page =
+    chosen path (codes "/") Page.Hill page _ refl (
+    chosen path (codes "/hill.json") Page.Data page _ refl (
+    chosen path (codes "/health") Page.Health page _ refl (
+    chosen path (codes "/robots.txt") Page.Robots page _ refl (
+    chosen path (codes "/favicon.ico") Page.Icon page None refl (λ is. absurd (none-some page is))))))
+
+replay-reads : (path : List ℕ) (page : Page) → replay path ≡ Some page → path ≡ target_for page
+replay-reads path page is =
+    let (begins, rest) = cond_some_of (bytes_eq (take 8 path) (codes "/replay/")) (round_of (drop 8 path)) page is in
+    sym (take-append-drop 8 path) ∙ ap (λ l. l ++ drop 8 path) ((bytes_eq-Decides (take 8 path) (codes "/replay/")).0 begins)
+    ∙ round-reads (drop 8 path) page rest
+
+-- of a page of which there is only one, or of a round
+or-reads : (path : List ℕ) (page : Page) (found : Option Page) → (found ≡ Some page → path ≡ target_for page) → or_round found path ≡ Some page → path ≡ target_for page
+or-reads path page None reads is = replay-reads path page is
+or-reads path page (Some other) reads is = reads is
+
+pub page-reads : (path : List ℕ) (page : Page) → page_of path ≡ Some page → path ≡ target_for page
+unfolding page_of
+page-reads path page is = or-reads path page (single_of path) (single-reads path page) is
 
 -- what holds of the page that is answered, for `page_named`
 pub answer-reads : (path : List ℕ) (answer : Option Page) → answer ≡ page_of path → IfSome answer (λ page. path ≡ target_for page)

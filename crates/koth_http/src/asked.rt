@@ -3,10 +3,11 @@
 ghost use Rattle.std.specs.Prelude.{◌≡◌, ◌≤◌, not, bytes_eq, codes, Bool, length, map};
 ghost use Rattle.httparse.specs.{Grammar.RequestHead, Spans.{IsRequestAt, IsRequestWithin}};
 ghost use Rattle.koth_http.specs.Asked.{FindsAsked, IsAsked, IsAskedBy, asked_of, is_reading, most_bytes, page_by, page_unless, refused};
-ghost use Rattle.koth_http.specs.{Host.{host_by, host_fault, IsJudged}, Target.page_named};
+ghost use Rattle.koth_http.specs.{Host.{host_by, host_fault, IsJudged}, Tags.IsToldOf, Target.page_named};
 
 use crate::host::{Hosts, host_fault, hosts_in, is_own, parts_of};
 use crate::refusal::Refusal;
+use crate::tags::knows;
 use crate::target::{Page, page_named};
 use httparse::spans::{EMPTY_HEADER_SPAN, HeaderSpan, RequestSpans, parse_request};
 use httparse::{Error, Status};
@@ -39,6 +40,17 @@ pub(crate) fn asked_in(names: &[&str], bytes: &[u8]) -> Option<Asked>
         Ok(Status::Partial) => Some(refused(Refusal::HeadTooLarge)),
         Err(Error::TooManyHeaders) => Some(refused(Refusal::HeadTooLarge)),
         Err(_) => Some(refused(Refusal::BadRequest)),
+    }
+}
+
+/// Whether the head in these bytes names this tag.
+pub(crate) fn is_known(bytes: &[u8], tag: &[u8]) -> bool
+    ensures { IsToldOf bytes.now tag.now result }
+{
+    let mut fields = [EMPTY_HEADER_SPAN; MOST_FIELDS];
+    match parse_request(bytes, &mut fields) {
+        Ok(Status::Complete(head)) => knows(bytes, head, &fields, tag),
+        Ok(Status::Partial) | Err(_) => false,
     }
 }
 

@@ -18,6 +18,8 @@ pub enum Refusal {
     HeadTooLarge,
     /// There is no memory for the page. The caller finds this.
     Unavailable,
+    /// The hill takes no more warriors. The caller finds this.
+    Worn,
 }
 
 impl Refusal {
@@ -33,7 +35,7 @@ impl Refusal {
             }
             Refusal::Misdirected => b"HTTP/1.1 421 Misdirected Request\r\n",
             Refusal::HeadTooLarge => b"HTTP/1.1 431 Request Header Fields Too Large\r\n",
-            Refusal::Unavailable => b"HTTP/1.1 503 Service Unavailable\r\n",
+            Refusal::Unavailable | Refusal::Worn => b"HTTP/1.1 503 Service Unavailable\r\n",
         }
     }
 
@@ -50,6 +52,7 @@ impl Refusal {
             }
             Refusal::HeadTooLarge => b"The head of this request is too large.",
             Refusal::Unavailable => b"There is no memory for this page now.",
+            Refusal::Worn => b"This hill takes no more warriors.",
         }
     }
 }

@@ -1,7 +1,7 @@
 //! Which page the target of a request names.
 
 ghost use Rattle.std.specs.{Prelude.{◌≡◌, ◌^◌, ◌<◌, ◌==◌, ℕ, IfSome, Some, None, decimal, bytes_eq}, List.{before_first, after_first}};
-ghost use Rattle.koth_http.specs.Target.{IsPage, number_of, page_of, page_named, path_of, round_of, target_for};
+ghost use Rattle.koth_http.specs.Target.{IsPage, single_of, number_of, page_of, page_named, path_of, round_of, target_for};
 
 use itoa::Buffer;
 use std::str::from_utf8;
@@ -9,8 +9,16 @@ use std::str::from_utf8;
 /// A page that there can be.
 #[derive(Clone, Copy)]
 pub enum Page {
-    /// The hill.
+    /// The hill, for people.
     Hill,
+    /// The hill, for programs.
+    Data,
+    /// Whether the hill takes warriors.
+    Health,
+    /// Which pages programs that follow links are not to ask for.
+    Robots,
+    /// The picture that browsers ask for unasked. It is empty.
+    Icon,
     /// A round of the match between two entries, turn by turn.
     Round {
         /// The entry number of the older warrior, as it is written.
@@ -23,7 +31,7 @@ pub enum Page {
 
 const REPLAY: &[u8] = b"/replay/";
 
-/// The page that a target names: `/` or `/replay/OLDER/YOUNGER/ROUND`, with or without a query.
+/// The page that a target names, with or without a query: `/`, `/hill.json`, `/health`, `/robots.txt`, `/favicon.ico` or `/replay/OLDER/YOUNGER/ROUND`.
 pub fn page_named(target: &[u8]) -> Option<Page>
     ensures value { result ≡ page_named target.now }
 
@@ -39,11 +47,31 @@ pub fn page_named(target: &[u8]) -> Option<Page>
 fn page_of(path: &[u8]) -> Option<Page>
     ensures { result ≡ page_of path.now }
 {
-    if path == b"/".as_slice() {
-        return Some(Page::Hill);
+    if let Some(page) = single_of(path) {
+        return Some(page);
     }
     if path.len() >= 8 && &path[..8] == REPLAY {
         round_of(&path[8..])
+    } else {
+        None
+    }
+}
+
+/// The page of which there is only one, by its path.
+#[tactic(auto, unfolding(crate::specs::Target::single_of))]
+fn single_of(path: &[u8]) -> Option<Page>
+    ensures { result ≡ single_of path.now }
+{
+    if path == b"/".as_slice() {
+        Some(Page::Hill)
+    } else if path == b"/hill.json".as_slice() {
+        Some(Page::Data)
+    } else if path == b"/health".as_slice() {
+        Some(Page::Health)
+    } else if path == b"/robots.txt".as_slice() {
+        Some(Page::Robots)
+    } else if path == b"/favicon.ico".as_slice() {
+        Some(Page::Icon)
     } else {
         None
     }

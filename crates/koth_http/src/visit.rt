@@ -1,9 +1,9 @@
 //! The bytes of one connection, until what they ask is known.
 
 ghost use Rattle.std.specs.Prelude.{◌≡◌, ◌==◌, ◌+◌, ◌≤◌, ◌++◌, [], length, map, IfOk};
-ghost use Rattle.koth_http.specs.Asked.{FindsAsked, IsAsked, most_bytes};
+ghost use Rattle.koth_http.specs.{Asked.{FindsAsked, IsAsked, most_bytes}, Tags.IsToldOf};
 
-use crate::asked::{Asked, MOST_BYTES, asked_in};
+use crate::asked::{Asked, MOST_BYTES, asked_in, is_known};
 use crate::target::cut;
 use std::alloc::{AllocError, Allocator};
 use std::marker::Model;
@@ -70,5 +70,12 @@ impl<A: Allocator> Visit<A> {
         ensures said { IsAsked (map (λ name. name.now) names.now) self.now result }
     {
         asked_in(names, self.bytes.as_slice())
+    }
+
+    /// Whether the request names this tag, so that the browser has the text of the tag already.
+    pub(crate) fn knows(&self, tag: &[u8]) -> bool
+        ensures { IsToldOf self.now tag.now result }
+    {
+        is_known(self.bytes.as_slice(), tag)
     }
 }

@@ -35,6 +35,12 @@ sum_line mine opponents tally points =
     object_line (type_field (codes "sum"))
     (contender_fields mine ++ (Key.Opponents, Value.number opponents) ∷ tally_fields tally ++ (Key.Points, Value.number points) ∷ [])
 
+-- a warrior of a field by its rank, with its rounds and points against all others
+abbrev pub ranked_line : ℕ → ContenderParts → Tally → ℕ → List ℕ
+ranked_line rank warrior tally points =
+    object_line (type_field (codes "ranked"))
+    ((Key.Rank, Value.number rank) ∷ contender_fields warrior ++ tally_fields tally ++ (Key.Points, Value.number points) ∷ [])
+
 -- which round it is, counted from 1, with its seed and the position of the second warrior
 abbrev pub draw_fields : ℕ → ℕ → ℕ → List Field
 draw_fields number seed position =

@@ -8,6 +8,8 @@ pub mod Objects
 pub mod Contest
 -- The lines of `show`.
 pub mod Hill
+-- A hill as one object, which a service shows to programs.
+pub mod Data
 -- The lines of `submit`, `try` and `audit`.
 pub mod Reply
 -- The lines of `check`, and of a source that is refused.

@@ -21,6 +21,18 @@ least_line points = object_line (type_field (codes "least")) ((Key.Points, Value
 abbrev pub worn_line : List ℕ
 worn_line = object_line (type_field (codes "worn")) []
 
+-- a warrior of a table, of whose matches nothing is known
+abbrev pub standing_line : ℕ → ℕ → ℕ → ℕ → List ℕ → List ℕ → List ℕ
+standing_line rank entry points age name author =
+    object_line (type_field (codes "warrior")) (
+    (Key.Rank, Value.number rank)
+    ∷ (Key.Entry, Value.number entry)
+    ∷ (Key.Points, Value.number points)
+    ∷ (Key.Age, Value.number age)
+    ∷ (Key.Name, Value.text name)
+    ∷ (Key.Author, Value.text author)
+    ∷ [])
+
 -- what the hill keeps of a pair, and what its match gives: from the older's side
 abbrev pub kept_fields : Bout → List Field
 kept_fields b =

@@ -1,7 +1,7 @@
-//! The lines of `fight`.
+//! The lines of `fight` and `rank`.
 
 ghost use Rattle.std.specs.Prelude.{◌≡◌, ◌∷◌, [], ◌++◌, codes, OnOk};
-ghost use Rattle.koth_json.specs.{declared.key.Key.Key, Contest.{contender_fields, contender_parts, match_line, opponent_fields, round_line, sum_line, tally_fields}, Objects.{Value, further_text}};
+ghost use Rattle.koth_json.specs.{declared.key.Key.Key, Contest.{contender_fields, contender_parts, match_line, opponent_fields, ranked_line, round_line, sum_line, tally_fields}, Objects.{Value, further_text}};
 
 use crate::key::Key;
 use crate::object::Value::{Number, Text};
@@ -50,6 +50,24 @@ pub fn put_sum<A: Allocator>(
     begin(lines, (Key::Type, Text(b"sum")))?;
     put_contender(lines, mine)?;
     put_fields(lines, &[(Key::Opponents, Number(opponents))])?;
+    end_with_result(lines, tally, points)
+}
+
+/// Puts the line of a warrior of a field: its rank, and its rounds and points against all others. The error is lack of
+/// memory.
+pub fn put_ranked<A: Allocator>(
+    lines: &mut Vec<u8, A>,
+    rank: u64,
+    warrior: Contender<'_>,
+    tally: Tally,
+    points: u64,
+) -> Result<(), AllocError>
+    ensures { OnOk result (lines.new.items ≡ lines.old.items
+        ++ ranked_line rank (contender_parts warrior.entry) tally points) }
+{
+    begin(lines, (Key::Type, Text(b"ranked")))?;
+    put_fields(lines, &[(Key::Rank, Number(rank))])?;
+    put_contender(lines, warrior)?;
     end_with_result(lines, tally, points)
 }
 

@@ -85,7 +85,8 @@ fn put_rows<A: Allocator, B: Allocator>(
     Ok(())
 }
 
-fn put_row<A: Allocator, B: Allocator>(
+/// Puts the line of the warrior in a row. The error is lack of memory.
+pub(crate) fn put_row<A: Allocator, B: Allocator>(
     lines: &mut Vec<u8, A>,
     hill: &Hill<B>,
     rank: u64,

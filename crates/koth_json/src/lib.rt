@@ -1,8 +1,9 @@
-//! What commands answer to programs as JSON: one object a line, no value of which is an object or an array.
+//! What commands answer to programs as JSON: one object a line, no value of which is an object or an array; and a hill
+//! as one object, with its warriors as an array.
 //!
 //! `string` puts a string for any bytes, `object` the line of an object, whose fields have the names of `key`. On these
 //! are the lines of commands: `contest` has those of `fight`, `hill` of `show`, `reply` of `submit`, `try` and `audit`,
-//! `finding` of `check` and of a source that is refused.
+//! `finding` of `check` and of a source that is refused. `data` puts the object of a hill, of the same fields.
 //!
 //! Each clause gives the whole line by a definition of `specs`. `proofs/ReadsBack` shows that such a line is the JSON
 //! of its fields, by the grammar of the crate `json`. It knows no store, files or streams. The error of all is lack of
@@ -10,6 +11,7 @@
 #![tactic(auto)]
 
 mod contest;
+mod data;
 mod finding;
 mod hill;
 mod key;
@@ -17,7 +19,8 @@ mod object;
 mod reply;
 mod string;
 
-pub use contest::{Contender, Round, put_match, put_round, put_sum};
+pub use contest::{Contender, Round, put_match, put_ranked, put_round, put_sum};
+pub use data::data_text;
 pub use finding::{Copied, Finding, Severity, put_finding, put_refused};
 pub use hill::{hill_text, put_bouts};
-pub use reply::{put_audit, put_fell, put_least, put_placed, put_worn};
+pub use reply::{put_audit, put_fell, put_least, put_placed, put_standing, put_worn};

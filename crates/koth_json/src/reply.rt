@@ -1,10 +1,10 @@
 //! The lines of `submit`, `try` and `audit`.
 
 ghost use Rattle.std.specs.Prelude.{◌≡◌, ◌++◌, OnOk};
-ghost use Rattle.koth_json.specs.Reply.{audit_line, fell_line, least_line, placed_line, untrue_line, worn_line};
+ghost use Rattle.koth_json.specs.Reply.{audit_line, fell_line, least_line, placed_line, standing_line, untrue_line, worn_line};
 
 use crate::key::Key;
-use crate::object::Value::{Number, Truth};
+use crate::object::Value::{Number, Text, Truth};
 use crate::object::put_object;
 use koth_hill::Untrue;
 use std::alloc::{AllocError, Allocator};
@@ -53,6 +53,30 @@ pub fn put_worn<A: Allocator>(lines: &mut Vec<u8, A>) -> Result<(), AllocError>
     ensures { OnOk result (lines.new.items ≡ lines.old.items ++ worn_line) }
 {
     put_object(lines, "worn", &[])
+}
+
+/// Puts the line of a warrior of a table, of whose matches nothing is known. The error is lack of memory.
+pub fn put_standing<'t, A: Allocator>(
+    lines: &mut Vec<u8, A>,
+    rank: u64,
+    entry: u64,
+    points: u32,
+    age: u64,
+    name: &'t [u8],
+    author: &'t [u8],
+) -> Result<(), AllocError>
+    ensures { OnOk result (lines.new.items ≡ lines.old.items
+        ++ standing_line rank entry points age name.now author.now) }
+{
+    let fields = [
+        (Key::Rank, Number(rank)),
+        (Key::Entry, Number(entry)),
+        (Key::Points, Number(u64::from(points))),
+        (Key::Age, Number(age)),
+        (Key::Name, Text(name)),
+        (Key::Author, Text(author)),
+    ];
+    put_object(lines, "warrior", &fields)
 }
 
 /// Puts the line of an audit: whether each result that the hill keeps is its match's, and the first that isn't. The

@@ -32,4 +32,4 @@ pub use copy::perform_copy;
 pub use create::perform_create;
 pub use migrate::perform_migrate;
 pub use reseed::perform_reseed;
-pub use seed::{drawn_seed, seed_hint};
+pub use seed::{drawn_seed, made_settings, seed_hint};

@@ -8,7 +8,7 @@ use hill_file::{Existing, HillFile, Sharing, TryLock};
 use hill_store::{MigrateSide, Store, sectors_for};
 use koth_commands::trouble::Trouble;
 use koth_commands::{Answer, Status};
-use koth_files::{refused_at, unopened_at};
+use koth_files::{refused_at, require_old_hill, unopened_at};
 use koth_words::Migration;
 use sector_disk::Device;
 use std::alloc::Allocator;
@@ -18,10 +18,10 @@ use war_types::range_of;
 /// Warriors that a hill holds at most, whatever its settings are.
 const GREATEST_CAPACITY: u16 = range_of!(capacity, greatest);
 
-/// Moves the hill in a file of the old format to another file, in the new one. Nothing is written to the old file. The
-/// new one is made if it is missing, large enough for any hill. That is done before it is known whether the old one
-/// holds a hill, and the file stays if the hill is not moved. A new file that holds anything but zeros is refused as
-/// `Occupied` and stays as it is.
+/// Moves the hill in a file of the old format to another file, in the new one. Nothing is written to the old file. If
+/// that has no header of the old format, no new file is made. Else the new one is made if it is missing, large enough
+/// for any hill. That is done before the old one is read whole, and the file stays if the hill is not moved. A new file
+/// that holds anything but zeros is refused as `Occupied` and stays as it is.
 pub fn perform_migrate<'m, R: Files, A: Allocator + Copy>(
     rt: &R,
     alloc: A,
@@ -31,6 +31,9 @@ where
     R::File: TryLock,
     ensures { Answers (SaysLine migrated_line) result }
 {
+    if let Err(trouble) = require_old_hill(rt, alloc, files.old) {
+        return Err(trouble);
+    }
     let old = match HillFile::open(rt, alloc, files.old, Sharing::Kept) {
         Ok(device) => device,
         Err(fault) => return Err(unopened_at(files.old, fault)),

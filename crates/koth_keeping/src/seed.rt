@@ -1,14 +1,14 @@
 //! The seed of a hill that is made: one that is drawn, and what the default one means.
 
-ghost use Rattle.std.specs.Prelude.{◌≡◌, IfOk, MatchResult};
-ghost use Rattle.{koth_match.specs.Seeds.IsSeed, koth_files.specs.Trouble.IsOfHill, koth_keeping.specs.Seed.{seed_hint, seed_of}};
+ghost use Rattle.std.specs.Prelude.{◌≡◌, true, IfErr, IfOk, MatchResult};
+ghost use Rattle.{koth_match.specs.Seeds.IsSeed, koth_files.specs.Trouble.IsOfHill, koth_keeping.specs.Seed.{seed_hint, seed_of, AreMade}};
 
 use koth_commands::reason_of;
 use koth_commands::trouble::Trouble;
 use koth_words::DEFAULTS;
 use std::io;
 use std::random::RandomSource;
-use war_types::range_of;
+use war_types::{RawSettings, range_of};
 
 /// How many seeds there are: they are 1 to this number.
 const SEEDS: u64 = range_of!(seed, greatest);
@@ -32,6 +32,25 @@ pub(crate) fn new_seed<'t, R: RandomSource>(rt: &R) -> Result<u32, Trouble<'t>>
     match drawn_seed(rt) {
         Ok(seed) => Ok(seed),
         Err(error) => Err(Trouble::file("random numbers", reason_of(error.kind()))),
+    }
+}
+
+/// The settings of a hill that is made: those that are given, with a seed that is drawn in place of theirs if
+/// `draw_seed` says so. The trouble is that there are no random numbers.
+pub fn made_settings<'t, R: RandomSource>(
+    rt: &R,
+    given: RawSettings,
+    draw_seed: bool,
+) -> Result<RawSettings, Trouble<'t>>
+    ensures made { IfOk result (AreMade draw_seed given) }
+    ensures no_seed { IfErr result (λ trouble. (draw_seed ≡ true) × IsOfHill trouble) }
+{
+    if !draw_seed {
+        return Ok(given);
+    }
+    match new_seed(rt) {
+        Ok(seed) => Ok(RawSettings { seed, ..given }),
+        Err(trouble) => Err(trouble),
     }
 }
 

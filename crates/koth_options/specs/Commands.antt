@@ -19,6 +19,10 @@ with_version app = record app { top = record app.top { has_version = true } }
 abbrev pub file_rule : Text → Rule
 file_rule name = record (new_rule name) { required = true }
 
+-- a file that may be left out
+abbrev pub spare_rule : Text → Rule
+spare_rule name = new_rule name
+
 -- one source or more
 abbrev pub sources_rule : Text → Rule
 sources_rule name = record (file_rule name) { action = Some ArgAction.Append }
@@ -31,6 +35,10 @@ source_or_input_rule = record (new_rule (codes "SOURCE")) { defaults = codes "-"
 abbrev pub texts_rule : Text → Rule
 texts_rule name = record (text_rule name) { action = Some ArgAction.Append }
 
+-- an option with a text, and the one that it has if it is left out
+abbrev pub defaulted_rule : Text → Text → Rule
+defaulted_rule name default = record (text_rule name) { defaults = default ∷ [] }
+
 -- the option for the file of a page, with the letter o
 abbrev pub page_rule : Rule
 page_rule = record (text_rule (codes "output")) { short = Some 111 }
@@ -41,6 +49,9 @@ flag_rule name = record (new_rule name) { long = Some name; action = Some ArgAct
 
 abbrev pub with_file : App → Text → App
 with_file app name = with_rule app (file_rule name)
+
+abbrev pub with_spare : App → Text → App
+with_spare app name = with_rule app (spare_rule name)
 
 abbrev pub with_flag : App → Text → App
 with_flag app name = with_rule app (flag_rule name)
@@ -57,6 +68,10 @@ with_format app = with_rule app (text_rule (codes "format"))
 abbrev pub with_view : App → App
 with_view app = with_format (with_flag (with_flag app (codes "plain")) (codes "table"))
 
+-- the options for a hill elsewhere: where it is, and for how many seconds its service may be silent
+abbrev pub with_to : App → App
+with_to app = with_ranged (with_rule app (text_rule (codes "to"))) (codes "timeout") 1 86400
+
 abbrev pub asm_app : App
 asm_app = with_like (with_name (with_rule (new_app (codes "asm")) source_or_input_rule))
 
@@ -72,15 +87,16 @@ abbrev pub create_app : App
 create_app = with_like (with_flag (with_flag (with_file (new_app (codes "create")) (codes "FILE")) (codes "overwrite")) (codes "draw-seed"))
 
 abbrev pub submit_app : App
-submit_app = with_view (with_name (with_ranged (with_file (with_file (new_app (codes "submit")) (codes "FILE")) (codes "SOURCE")) (codes "wait") 1 3600))
+submit_app = with_like (with_view (with_name (with_flag (with_to (with_ranged (with_spare (with_file (new_app (codes "submit")) (codes "FILE")) (codes "SOURCE"))
+    (codes "wait") 1 3600)) (codes "pipe"))))
 
 abbrev pub show_app : App
-show_app = with_view (with_flag (with_flag (with_flag (with_file (new_app (codes "show")) (codes "FILE")) (codes "matches")) (codes "settings")) (codes "with-seed"))
+show_app = with_view (with_flag (with_flag (with_flag (with_to (with_spare (new_app (codes "show")) (codes "FILE"))) (codes "matches")) (codes "settings")) (codes "with-seed"))
 
 abbrev pub serve_app : App
-serve_app = with_settings (with_flag (with_flag (with_flag (with_rule (with_ranged (with_option (with_rule (with_option (with_ranged (with_ranged (with_rule (with_file (new_app (codes "serve"))
+serve_app = with_settings (with_flag (with_flag (with_rule (with_rule (with_flag (with_rule (with_ranged (with_option (with_rule (with_option (with_ranged (with_ranged (with_rule (with_file (new_app (codes "serve"))
     (codes "FILE")) (required_rule (codes "port") 65535)) (codes "peers") 1 1024) (codes "peers-per-address") 1 1024) (codes "steps")) (text_rule (codes "listen"))) (codes "connections")) (codes "http") 0 65535)
-    (texts_rule (codes "host"))) (codes "replays")) (codes "quiet")) (codes "create"))
+    (texts_rule (codes "host"))) (codes "replays")) (text_rule (codes "title"))) (text_rule (codes "peers-at"))) (codes "quiet")) (codes "create"))
 
 abbrev pub session_app : App
 session_app = with_option (with_ranged (with_file (new_app (codes "session")) (codes "FILE")) (codes "wait") 1 3600) (codes "steps")
@@ -94,9 +110,16 @@ migrate_app = with_file (with_file (new_app (codes "migrate")) (codes "FILE")) (
 abbrev pub page_app : App
 page_app = with_file (new_app (codes "page")) (codes "FILE")
 
+-- the options for a round of a match
+abbrev pub with_round : App → App
+with_round app = with_flag (with_flag (with_flag (with_ranged app (codes "round") 1 1000) (codes "lost")) (codes "won")) (codes "tied")
+
 abbrev pub replay_app : App
-replay_app = with_like (with_flag (with_flag (with_flag (with_ranged (with_rule (with_name (with_file (with_file (new_app (codes "replay"))
-    (codes "MINE")) (codes "OTHER"))) page_rule) (codes "round") 1 1000) (codes "lost")) (codes "won")) (codes "tied"))
+replay_app = with_like (with_round (with_rule (with_name (with_file (with_file (new_app (codes "replay")) (codes "MINE")) (codes "OTHER"))) page_rule))
+
+abbrev pub trace_app : App
+trace_app = with_like (with_rule (with_ranged (with_round (with_name (with_file (with_file (new_app (codes "trace")) (codes "MINE")) (codes "OTHER"))))
+    (codes "last") 1 4294967295) (defaulted_rule (codes "format") (codes "text")))
 
 abbrev pub try_app : App
 try_app = with_view (with_name (with_file (with_file (new_app (codes "try")) (codes "FILE")) (codes "SOURCE")))
@@ -107,10 +130,13 @@ copy_app = with_flag (with_file (with_file (new_app (codes "copy")) (codes "FILE
 abbrev pub reseed_app : App
 reseed_app = with_option (with_file (with_file (new_app (codes "reseed")) (codes "FILE")) (codes "NEW")) (codes "seed")
 
+abbrev pub rank_app : App
+rank_app = with_like (with_view (with_flag (with_name (with_rule (new_app (codes "rank")) (sources_rule (codes "FOLDER")))) (codes "both")))
+
 -- the commands, in the order of the help
 abbrev pub koth_commands : List App
 koth_commands = asm_app ∷ check_app ∷ fight_app ∷ create_app ∷ submit_app ∷ show_app ∷ serve_app ∷ session_app ∷ audit_app
-    ∷ migrate_app ∷ page_app ∷ replay_app ∷ try_app ∷ copy_app ∷ reseed_app ∷ []
+    ∷ migrate_app ∷ page_app ∷ replay_app ∷ trace_app ∷ try_app ∷ copy_app ∷ reseed_app ∷ rank_app ∷ []
 
 -- the program: `koth`, and a command's name with its files and options
 unfoldable pub koth_app : App

@@ -1,7 +1,7 @@
 //! The files, options and flags of the commands, one by one.
 
 ghost use Rattle.std.specs.Prelude.{codes, pos};
-ghost use Rattle.koth_options.specs.{Arguments.{rule_at, IsArg}, Commands.{file_rule, flag_rule, page_rule, source_or_input_rule, sources_rule, texts_rule}, Options.{lettered_rule, ranged_rule, required_rule, text_rule}};
+ghost use Rattle.koth_options.specs.{Arguments.{rule_at, IsArg}, Commands.{defaulted_rule, file_rule, flag_rule, page_rule, source_or_input_rule, sources_rule, spare_rule, texts_rule}, Options.{lettered_rule, ranged_rule, required_rule, text_rule}};
 
 use clap::builder::ValueParser;
 use clap::{Arg, ArgAction};
@@ -15,6 +15,8 @@ const MOST: i64 = 4_294_967_295;
 pub(crate) enum Argument {
     /// A file that has to be named.
     File(&'static str, &'static str),
+    /// A file that may be left out.
+    Spare(&'static str, &'static str),
     /// A source that is the input if none is named.
     SourceOrInput,
     /// One source or more.
@@ -23,6 +25,8 @@ pub(crate) enum Argument {
     Text(&'static str, &'static str, &'static str),
     /// An option with a text, which may be given more than once.
     Texts(&'static str, &'static str, &'static str),
+    /// An option with a text, and the one that it has if it is left out.
+    Defaulted(&'static str, &'static str, &'static str, &'static str),
     /// The option for the file of a page.
     Page(&'static str),
     /// The option for a port, which has to be given.
@@ -44,10 +48,14 @@ impl Argument {
     {
         match *self {
             Argument::File(name, help) => file(heap, name, help),
+            Argument::Spare(name, help) => spare(heap, name, help),
             Argument::SourceOrInput => source_or_input(heap),
             Argument::Sources(name, help) => sources(heap, name, help),
             Argument::Text(name, value, help) => text(heap, name, value, help),
             Argument::Texts(name, value, help) => texts(heap, name, value, help),
+            Argument::Defaulted(name, value, default, help) => {
+                defaulted(heap, name, value, default, help)
+            }
             Argument::Page(help) => page_file(heap, help),
             Argument::Port => port(heap),
             Argument::Number(name, help) => ranged(heap, name, 0, MOST, help),
@@ -62,6 +70,13 @@ fn file<'a>(heap: Global, name: &'a str, help: &'a str) -> Arg<'a>
     ensures { IsArg (file_rule name.entry.now) result }
 {
     Arg::new(heap, name).required(true).help(help)
+}
+
+/// A file that may be left out.
+fn spare<'a>(heap: Global, name: &'a str, help: &'a str) -> Arg<'a>
+    ensures { IsArg (spare_rule name.entry.now) result }
+{
+    Arg::new(heap, name).help(help)
 }
 
 /// A source that is the input if none is named.
@@ -92,6 +107,19 @@ fn texts<'a>(heap: Global, name: &'a str, value: &'a str, help: &'a str) -> Arg<
     ensures { IsArg (texts_rule name.entry.now) result }
 {
     text(heap, name, value, help).action(ArgAction::Append)
+}
+
+/// An option with a text, and the one that it has if it is left out.
+fn defaulted<'a>(
+    heap: Global,
+    name: &'a str,
+    value: &'a str,
+    default: &'a str,
+    help: &'a str,
+) -> Arg<'a>
+    ensures { IsArg (defaulted_rule name.entry.now default.entry.now) result }
+{
+    text(heap, name, value, help).default_value(default)
 }
 
 /// The option for the file of a page.

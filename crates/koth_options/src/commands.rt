@@ -5,20 +5,16 @@ ghost use Rattle.clap.specs.Words.{new_app};
 ghost use Rattle.koth_options.specs.{Arguments.{commands_to_fight, with_commands}, Commands.{create_app, koth_app, serve_app, show_app, submit_app, wants_subcommand, with_version, IsReadAs}};
 
 use crate::arguments::Argument::{
-    File, Flag, Number, Page, Port, Ranged, SourceOrInput, Sources, Text, Texts,
+    File, Flag, Number, Port, Ranged, SourceOrInput, Sources, Spare, Text, Texts,
 };
 use crate::building::{Row, Takes, described, with_rows};
 use crate::options::{
-    FORMAT, HILL_FILE, KEPT_FILE, NAME, PLAIN, STEPS, TABLE, WAIT, WARRIOR, help,
+    FORMAT, HILL_FILE, KEPT_FILE, NAME, PLAIN, STEPS, TABLE, TIMEOUT, TO, WAIT, WARRIOR, help,
 };
+use crate::rounds::{REPLAY, TRACE};
 use clap::Command;
 use std::alloc::{AllocError, Global};
 use war_types::range_of;
-
-/// An option with a number that is in the range of a setting.
-macro_rules! ranged {
-    ($least:literal, $most:literal, $name:literal, $help:expr) => { Ranged($name, $least, $most, $help) };
-}
 
 /// The commands up to `fight`, in the order of the help.
 const TO_FIGHT: [Row; 3] = [
@@ -94,14 +90,36 @@ const TO_SERVE: [Row; 4] = [
     Row {
         name: "submit",
         about: "Submits a warrior to a hill, and writes whether it is placed, falls or is refused",
-        arguments: &[HILL_FILE, WARRIOR, WAIT, NAME, PLAIN, TABLE, FORMAT],
-        takes: Takes::Nothing,
+        arguments: &[
+            File(
+                "FILE",
+                "Hill file; with --to or --pipe the file of the warrior's source in its place",
+            ),
+            Spare(
+                "SOURCE",
+                "File of the warrior's source; - is standard input",
+            ),
+            WAIT,
+            TO,
+            TIMEOUT,
+            Flag(
+                "pipe",
+                "Submit to the session that standard input and output lead to; FILE is left out",
+            ),
+            NAME,
+            PLAIN,
+            TABLE,
+            FORMAT,
+        ],
+        takes: Takes::Like,
     },
     Row {
         name: "show",
         about: "Writes a hill's table: rank, entry, points, age, name and author of each warrior",
         arguments: &[
-            HILL_FILE,
+            Spare("FILE", "Hill file"),
+            TO,
+            TIMEOUT,
             Flag(
                 "matches",
                 "Write after the table how many rounds each warrior won against each other",
@@ -160,10 +178,20 @@ const TO_SERVE: [Row; 4] = [
                 "replays",
                 "Show browsers replays of rounds too, which publish both warriors whole",
             ),
+            Text(
+                "title",
+                "TEXT",
+                "Title of the hill's page [default: King of the Hill]",
+            ),
+            Text(
+                "peers-at",
+                "ADDRESS",
+                "Where peers submit by the hill's page, HOST:PORT [default: the first --host, or where the service listens]",
+            ),
             Flag("quiet", "Write no line for each connection"),
             Flag(
                 "create",
-                "Create the hill first if FILE is missing, under the settings below; a hill that is there keeps its own",
+                "Create the hill first if FILE is missing, under the settings below, and draw its seed unless --seed is given; a hill that is there keeps its own",
             ),
         ],
         takes: Takes::Settings,
@@ -171,7 +199,7 @@ const TO_SERVE: [Row; 4] = [
 ];
 
 /// The commands from `session` on.
-const TO_RESEED: [Row; 8] = [
+const FROM_SESSION: [Row; 10] = [
     Row {
         name: "session",
         about: "Serves one session on a hill over standard input and output",
@@ -196,26 +224,8 @@ const TO_RESEED: [Row; 8] = [
         arguments: &[HILL_FILE],
         takes: Takes::Nothing,
     },
-    Row {
-        name: "replay",
-        about: "Writes a page that shows one round of a match turn by turn",
-        arguments: &[
-            File("MINE", "File of the older warrior; - is standard input"),
-            File("OTHER", "File of the younger warrior; - is standard input"),
-            NAME,
-            Page("File for the page; needed if standard output is a terminal"),
-            range_of!(
-                rounds,
-                ranged,
-                "round",
-                help!("Round that is shown, "; rounds; " [default: 1]")
-            ),
-            Flag("lost", "Show the first round that MINE lost"),
-            Flag("won", "Show the first round that MINE won"),
-            Flag("tied", "Show the first round that is a tie"),
-        ],
-        takes: Takes::Like,
-    },
+    REPLAY,
+    TRACE,
     Row {
         name: "try",
         about: "Writes what a submission of a warrior would be answered; nothing is submitted",
@@ -248,13 +258,29 @@ const TO_RESEED: [Row; 8] = [
         ],
         takes: Takes::Nothing,
     },
+    Row {
+        name: "rank",
+        about: "Plays the match of each two warriors of a field, and writes the warriors by points",
+        arguments: &[
+            Sources(
+                "FOLDER",
+                "Folders of the warriors, one or more, each for its *.red; a file is one warrior",
+            ),
+            NAME,
+            Flag("both", "Play each match in the other order too"),
+            PLAIN,
+            TABLE,
+            FORMAT,
+        ],
+        takes: Takes::Like,
+    },
 ];
 
 /// The program with its commands. The error is lack of memory.
 pub fn koth_command<'a>(heap: Global) -> Result<Command<'a>, AllocError>
     ensures { IfOk result (IsReadAs koth_app) }
 {
-    with_rows(heap, commands_to_serve(heap), &TO_RESEED)
+    with_rows(heap, commands_to_serve(heap), &FROM_SESSION)
 }
 
 /// The program with its commands up to `serve`.

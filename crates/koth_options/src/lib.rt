@@ -5,12 +5,13 @@
 //! - `arguments`: the files, options and flags of commands, one by one;
 //! - `options`: what several commands take, the options that give settings among it;
 //! - `building`: what commands are built of;
-//! - `commands`: the commands.
+//! - `rounds`: the commands that show a round of a match; `commands`: all commands.
 #![tactic(auto)]
 
 mod arguments;
 mod building;
 mod commands;
 mod options;
+mod rounds;
 
 pub use commands::koth_command;

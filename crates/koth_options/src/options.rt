@@ -68,6 +68,20 @@ pub(crate) const WAIT: Argument = Ranged(
     "Seconds to wait if another program has the hill's lock, 1 to 3600 [default: none]",
 );
 
+/// The options for a hill elsewhere, and for how long its service may be silent.
+pub(crate) const TO: Argument = Text(
+    "to",
+    "ADDRESS:PORT",
+    "Hill that is served there: a number or a name, IPv6 in brackets; FILE is left out",
+);
+
+pub(crate) const TIMEOUT: Argument = Ranged(
+    "timeout",
+    1,
+    86400,
+    "Seconds for which the service may be silent, 1 to 86400, with --to [default: 600]",
+);
+
 /// The option for the steps that the assembly of a source may take in a session.
 pub(crate) const STEPS: Argument = Number(
     "steps",
@@ -135,7 +149,7 @@ const MATCH: [Argument; 9] = [
 const HILL: [Argument; 2] = [
     Number(
         "seed",
-        help!("Seed of the positions, "; seed; "; give each hill its own, 1 is known to all [default: 1]"),
+        help!("Seed of the positions, "; seed; "; give each hill its own, 1 is known to all [default: 1; for serve, one that is drawn]"),
     ),
     Number(
         "capacity",

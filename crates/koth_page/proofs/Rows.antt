@@ -1,10 +1,11 @@
 -- Parts of the pages of small hills, computed.
-use Rattle.{std.proofs.Common.{◌≡◌, ℕ, List, [], ◌∷◌, ◌++◌, codes, refl}, std.specs.{Char.encode_utf8, Fmt.digits, Str.{chars, is_utf8}}}
+use Rattle.{std.proofs.Common.{◌≡◌, ℕ, List, [], ◌∷◌, ◌++◌, codes, Some, None, refl}, std.specs.{Char.encode_utf8, Fmt.digits, Str.{chars, is_utf8}}}
 use Rattle.{std.specs.Str.Lossy.{utf8_error_len, utf8_lossy, utf8_valid_len}, war_types.specs.{declared.settings.RawSettings.RawSettings, Warrior.warrior_parts}}
 use Rattle.{koth_match.specs.declared.bout.Bout.Bout, koth_hill.specs.{Hill.{Member, member_of}, Kept.{Kept, kept_of, table_kept}}, koth_text.specs.Escape.escaped}
-use Rattle.koth_page.specs.{declared.parts.TheConstants.{END, HEAD, MATCHES_START, STANDING_START, TABLE_END}, Cells.{name_cell, number_cell}}
-use Rattle.koth_page.specs.{Matches.{fought_cell, fought_text, link_start, matches_heading, matches_row, matches_text, rank_heading, rounds_text, sides_text}, Page.{hill_page, page_of}}
-use Rattle.koth_page.specs.{Settings.{machine_text, rules_text, setting_text, settings_text}, Standing.{standing_heading, standing_row, standing_text}, declared.links.Links.Links}
+use Rattle.koth_page.specs.{declared.parts.TheConstants.{BODY_START, EMPTY, END, HEAD, MATCHES_START, RULES, STANDING_START, TABLE_END}, Cells.{name_cell, name_heading, number_cell}}
+use Rattle.koth_page.specs.{Matches.{cell_start, fought_cell, fought_text, label_text, link_start, matches_heading, matches_row, matches_text, pair_text, rank_heading, rounds_text, row_heading, sides_text}, Page.{hill_page, page_of}}
+use Rattle.koth_page.specs.{Settings.{limit_text, limits_text, machine_text, rules_text, setting_text, settings_text}, Shade.shade, Sign.{AddressParts, SignParts}, declared.links.Links.Links}
+use Rattle.koth_page.specs.{Standing.{ranked_text, standing_heading, standing_row, standing_text}, Top.{age_text, facts_text, head_text, king_text, lines_text, named_text, points_text, submit_text, top_text}}
 
 abbrev settings : RawSettings
 settings =
@@ -23,50 +24,68 @@ none = kept_of settings 0 [] []
 abbrev two : Kept
 two = kept_of settings 3 (entered 1 1 (codes "Imp") ∷ entered 3 0 (codes "<Scanner>") ∷ []) ([] ∷ (rounds 1 8 1 ∷ []) ∷ [])
 
-page_of_none : hill_page none Links.None
+abbrev without_address : SignParts
+without_address = record { title = codes "A <hill>"; address = None }
+
+abbrev address : AddressParts
+address = record { joined = codes "a.example:80"; apart = codes "a.example 80" }
+
+page_of_none : hill_page none without_address Links.None
     ≡ HEAD.now
-    ++ codes "<dl>\n"
-    ++ codes "<div><dt>core size</dt><dd>8000</dd></div>\n"
-    ++ codes "<div><dt>cycles</dt><dd>80000</dd></div>\n"
-    ++ codes "<div><dt>processes</dt><dd>8000</dd></div>\n"
-    ++ codes "<div><dt>read limit</dt><dd>8000</dd></div>\n"
-    ++ codes "<div><dt>write limit</dt><dd>4000</dd></div>\n"
-    ++ codes "<div><dt>length</dt><dd>100</dd></div>\n"
-    ++ codes "<div><dt>distance</dt><dd>100</dd></div>\n"
-    ++ codes "<div><dt>rounds</dt><dd>10</dd></div>\n"
-    ++ codes "<div><dt>places</dt><dd>20</dd></div>\n"
-    ++ codes "</dl>\n"
-    ++ codes "<p>No warrior stands on this hill yet.</p>\n"
+    ++ codes "A &lt;hill&gt;"
+    ++ BODY_START.now
+    ++ codes "A &lt;hill&gt;</h1>\n"
+    ++ EMPTY.now
+    ++ codes "<details>\n<summary>Settings: core 8000, cycles 80000, processes 8000, length 100, distance 100, rounds 10, places 20, write limit 4000"
+    ++ RULES.now
     ++ END.now
-unfolding digits machine_text page_of rules_text setting_text settings_text
+unfolding chars digits encode_utf8 escaped head_text is_utf8 king_text limit_text limits_text machine_text page_of rules_text setting_text settings_text submit_text top_text utf8_error_len utf8_lossy utf8_valid_len
 page_of_none = refl
+
+-- the first by rank is the king, the lowest is the least of all, and the address is in both lines
+top_of_two : top_text (record without_address { address = Some address }) (table_kept two)
+    ≡ HEAD.now
+    ++ codes "A &lt;hill&gt;"
+    ++ BODY_START.now
+    ++ codes "A &lt;hill&gt;</h1>\n"
+    ++ codes "<p class=\"king\">King: <b>&lt;Scanner&gt;</b> by A. &amp; B. <span>25 points &middot; age 0</span> <span>the lowest has 4 points</span></p>\n"
+    ++ codes "<pre>koth submit --to a.example:80 mine.red</pre>\n"
+    ++ codes "<pre>(echo SUBMIT; sed 's/^\\./../; $a\\' mine.red; echo .; echo QUIT) | nc a.example 80</pre>\n"
+unfolding age_text chars digits encode_utf8 escaped facts_text head_text is_utf8 king_text lines_text named_text points_text submit_text top_text utf8_error_len utf8_lossy utf8_valid_len
+top_of_two = refl
 
 table_of_two : standing_text two (table_kept two)
     ≡ STANDING_START.now
-    ++ codes "<thead><tr><th>rank</th><th>entry</th><th>points</th><th>won</th><th>lost</th><th>tied</th><th>age</th><th class=\"name\">warrior</th><th class=\"name\">author</th></tr></thead>\n"
-    ++ codes "<tr><td>1</td><td>3</td><td>25</td><td>8</td><td>1</td><td>1</td><td>0</td><td class=\"name\">&lt;Scanner&gt;</td><td class=\"name\">A. &amp; B.</td></tr>\n"
-    ++ codes "<tr><td>2</td><td>1</td><td>4</td><td>1</td><td>8</td><td>1</td><td>1</td><td class=\"name\">Imp</td><td class=\"name\">A. &amp; B.</td></tr>\n"
+    ++ standing_heading
+    ++ codes "<tr><td>1</td><th scope=\"row\" class=\"name\">&lt;Scanner&gt;</th><td class=\"name\">A. &amp; B.</td><td>25</td><td>8</td><td>1</td><td>1</td><td>0</td><td>3</td></tr>\n"
+    ++ codes "<tr><td>2</td><th scope=\"row\" class=\"name\">Imp</th><td class=\"name\">A. &amp; B.</td><td>4</td><td>1</td><td>8</td><td>1</td><td>1</td><td>1</td></tr>\n"
     ++ TABLE_END.now
-unfolding digits chars encode_utf8 escaped is_utf8 name_cell number_cell standing_heading standing_row standing_text utf8_error_len utf8_lossy utf8_valid_len
+unfolding chars digits encode_utf8 escaped is_utf8 name_cell name_heading number_cell ranked_text standing_heading standing_row standing_text utf8_error_len utf8_lossy utf8_valid_len
 table_of_two = refl
 
 matches_of_two : matches_text two Links.None (table_kept two)
     ≡ MATCHES_START.now
-    ++ codes "<thead><tr><th>rank</th><th class=\"name\">warrior</th><th title=\"&lt;Scanner&gt;\">1</th><th title=\"Imp\">2</th></tr></thead>\n"
-    ++ codes "<tr><td>1</td><td class=\"name\">&lt;Scanner&gt;</td><td class=\"self\">&middot;</td><td title=\"&lt;Scanner&gt; against Imp\">8/1/1</td></tr>\n"
-    ++ codes "<tr><td>2</td><td class=\"name\">Imp</td><td title=\"Imp against &lt;Scanner&gt;\">1/8/1</td><td class=\"self\">&middot;</td></tr>\n"
+    ++ codes "<thead><tr><th scope=\"col\">rank</th><th scope=\"col\" class=\"name\">warrior</th><th scope=\"col\" title=\"&lt;Scanner&gt;\">1</th><th scope=\"col\" title=\"Imp\">2</th></tr></thead>\n"
+    ++ codes "<tr><td>1</td><th scope=\"row\" class=\"name\" id=\"w3\">&lt;Scanner&gt;</th><td class=\"self\">&middot;</td><td class=\"w3\" title=\"&lt;Scanner&gt; against Imp\">8-1</td></tr>\n"
+    ++ codes "<tr><td>2</td><th scope=\"row\" class=\"name\" id=\"w1\">Imp</th><td class=\"l3\" title=\"Imp against &lt;Scanner&gt;\">1-8</td><td class=\"self\">&middot;</td></tr>\n"
     ++ TABLE_END.now
-unfolding digits chars encode_utf8 escaped fought_cell fought_text is_utf8 matches_heading matches_row matches_text name_cell number_cell rank_heading rounds_text sides_text utf8_error_len utf8_lossy utf8_valid_len
+unfolding cell_start chars digits encode_utf8 escaped fought_cell fought_text is_utf8 matches_heading matches_row matches_text number_cell pair_text rank_heading rounds_text row_heading shade sides_text utf8_error_len utf8_lossy utf8_valid_len
 matches_of_two = refl
 
 -- both cells lead to the first round of the match, by the older warrior's entry and the younger's
 rounds_of_two : matches_text two Links.Rounds (table_kept two)
     ≡ MATCHES_START.now
-    ++ codes "<thead><tr><th>rank</th><th class=\"name\">warrior</th><th title=\"&lt;Scanner&gt;\">1</th><th title=\"Imp\">2</th></tr></thead>\n"
-    ++ codes "<tr><td>1</td><td class=\"name\">&lt;Scanner&gt;</td><td class=\"self\">&middot;</td>"
-    ++ codes "<td title=\"&lt;Scanner&gt; against Imp\"><a href=\"/replay/1/3/1\">8/1/1</a></td></tr>\n"
-    ++ codes "<tr><td>2</td><td class=\"name\">Imp</td>"
-    ++ codes "<td title=\"Imp against &lt;Scanner&gt;\"><a href=\"/replay/1/3/1\">1/8/1</a></td><td class=\"self\">&middot;</td></tr>\n"
+    ++ codes "<thead><tr><th scope=\"col\">rank</th><th scope=\"col\" class=\"name\">warrior</th><th scope=\"col\" title=\"&lt;Scanner&gt;\">1</th><th scope=\"col\" title=\"Imp\">2</th></tr></thead>\n"
+    ++ codes "<tr><td>1</td><th scope=\"row\" class=\"name\" id=\"w3\">&lt;Scanner&gt;</th><td class=\"self\">&middot;</td>"
+    ++ codes "<td class=\"w3\" title=\"&lt;Scanner&gt; against Imp\"><a href=\"/replay/1/3/1\" id=\"m3-1\" aria-labelledby=\"w3 vs w1 m3-1\">8-1</a></td></tr>\n"
+    ++ codes "<tr><td>2</td><th scope=\"row\" class=\"name\" id=\"w1\">Imp</th>"
+    ++ codes "<td class=\"l3\" title=\"Imp against &lt;Scanner&gt;\"><a href=\"/replay/1/3/1\" id=\"m1-3\" aria-labelledby=\"w1 vs w3 m1-3\">1-8</a></td><td class=\"self\">&middot;</td></tr>\n"
     ++ TABLE_END.now
-unfolding digits chars encode_utf8 escaped fought_cell fought_text is_utf8 link_start matches_heading matches_row matches_text name_cell number_cell rank_heading rounds_text sides_text utf8_error_len utf8_lossy utf8_valid_len
+unfolding cell_start chars digits encode_utf8 escaped fought_cell fought_text is_utf8 label_text link_start matches_heading matches_row matches_text number_cell pair_text rank_heading rounds_text row_heading shade sides_text utf8_error_len utf8_lossy utf8_valid_len
 rounds_of_two = refl
+
+-- a lead of one round of ten, of just over a quarter of them, and of all
+shades : (shade (record { won = 5; lost = 4; tied = 1 }) ≡ codes "w1") × (shade (record { won = 1; lost = 4; tied = 5 }) ≡ codes "l2")
+    × (shade (record { won = 10; lost = 0; tied = 0 }) ≡ codes "w4") × (shade (record { won = 2; lost = 2; tied = 6 }) ≡ codes "e")
+unfolding digits shade
+shades = (refl, refl, refl, refl)

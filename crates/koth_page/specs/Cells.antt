@@ -13,3 +13,7 @@ number_cells ns = flat_map number_cell ns
 -- a name
 unfoldable pub name_cell : List ℕ → List ℕ
 name_cell name = codes "<td class=\"name\">" ++ escaped name ++ codes "</td>"
+
+-- the name of the warrior of a row, of which it is the heading
+unfoldable pub name_heading : List ℕ → List ℕ
+name_heading name = codes "<th scope=\"row\" class=\"name\">" ++ escaped name ++ codes "</th>"

@@ -1,22 +1,29 @@
 -- The settings of a hill, without its seed.
-use Rattle.std.specs.Prelude.{ℕ, List, ◌++◌, codes, decimal}
-use Rattle.war_types.specs.declared.settings.RawSettings.{RawSettings}
+use Rattle.std.specs.Prelude.{ℕ, ◌==◌, if◌then◌else◌, List, [], ◌++◌, codes, decimal}
+use Rattle.{war_types.specs.declared.settings.RawSettings.{RawSettings}, koth_page.specs.declared.parts.TheConstants.RULES}
 
--- a setting, by what it is called
+-- a setting after what it is called
 unfoldable pub setting_text : List ℕ → ℕ → List ℕ
-setting_text name n = codes "<div><dt>" ++ name ++ codes "</dt><dd>" ++ decimal n ++ codes "</dd></div>\n"
+setting_text name n = name ++ decimal n
 
 -- of the machine
 unfoldable pub machine_text : RawSettings → List ℕ
 machine_text s =
-    setting_text (codes "core size") s.core ++ setting_text (codes "cycles") s.cycles ++ setting_text (codes "processes") s.processes
-    ++ setting_text (codes "read limit") s.read_limit ++ setting_text (codes "write limit") s.write_limit
+    setting_text (codes "<details>\n<summary>Settings: core ") s.core ++ setting_text (codes ", cycles ") s.cycles ++ setting_text (codes ", processes ") s.processes
 
 -- of warriors and their matches
 unfoldable pub rules_text : RawSettings → List ℕ
 rules_text s =
-    setting_text (codes "length") s.length ++ setting_text (codes "distance") s.distance ++ setting_text (codes "rounds") s.rounds
-    ++ setting_text (codes "places") s.capacity
+    setting_text (codes ", length ") s.length ++ setting_text (codes ", distance ") s.distance ++ setting_text (codes ", rounds ") s.rounds
+    ++ setting_text (codes ", places ") s.capacity
 
+-- a limit in a core of this size, if it is on
+unfoldable pub limit_text : List ℕ → ℕ → ℕ → List ℕ
+limit_text name n core = if n == core then [] else setting_text name n
+
+unfoldable pub limits_text : RawSettings → List ℕ
+limits_text s = limit_text (codes ", read limit ") s.read_limit s.core ++ limit_text (codes ", write limit ") s.write_limit s.core
+
+-- the line of the settings, which opens what they mean
 unfoldable pub settings_text : RawSettings → List ℕ
-settings_text s = codes "<dl>\n" ++ machine_text s ++ rules_text s ++ codes "</dl>\n"
+settings_text s = machine_text s ++ rules_text s ++ limits_text s ++ RULES.now

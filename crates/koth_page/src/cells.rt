@@ -1,7 +1,7 @@
 //! Cells of a table.
 
 ghost use Rattle.std.specs.Prelude.{◌≡◌, ◌+◌, ◌≤◌, ◌++◌, length, codes, decimal, OnOk};
-ghost use Rattle.koth_page.specs.Cells.{name_cell, number_cell, number_cells};
+ghost use Rattle.koth_page.specs.Cells.{name_cell, name_heading, number_cell, number_cells};
 
 use koth_text::Piece::{Escaped, Text};
 use koth_text::{Line, put_all, put_line};
@@ -40,5 +40,23 @@ pub(crate) fn put_name_cell<A: Allocator>(
     put_all(
         page,
         &[Text(b"<td class=\"name\">"), Escaped(name), Text(b"</td>")],
+    )
+}
+
+/// Puts the name of the warrior of a row, of which it is the heading.
+#[tactic(auto, unfolding(crate::specs::Cells::name_heading))]
+pub(crate) fn put_name_heading<A: Allocator>(
+    page: &mut Vec<u8, A>,
+    name: &[u8],
+) -> Result<(), AllocError>
+    ensures { OnOk result (page.new.items ≡ page.old.items ++ name_heading name.now) }
+{
+    put_all(
+        page,
+        &[
+            Text(b"<th scope=\"row\" class=\"name\">"),
+            Escaped(name),
+            Text(b"</th>"),
+        ],
     )
 }

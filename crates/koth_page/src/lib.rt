@@ -4,8 +4,10 @@
 //! It knows a hill with the results that it keeps, and no store, files or sockets. What others wrote is escaped by
 //! `koth_text`. The modules, in the order in which the data pass:
 //!
-//! - `cells`: numbers and names in the cells of a table; `links`: what the rounds of a match lead to;
+//! - `sign`: what the page says that the hill doesn't know; `links`: what the rounds of a match lead to;
+//! - `cells`: numbers and names in the cells of a table; `shade`: how cells of matches are coloured;
 //! - `parts`: what is the same on every page, with the style sheet;
+//! - `top`: the title, the king, and how to submit;
 //! - `settings`, `standing` and `matches`: the settings of a hill, its table, and its matches;
 //! - `page`: all of these.
 //!
@@ -20,8 +22,12 @@ mod matches;
 mod page;
 mod parts;
 mod settings;
+mod shade;
+mod sign;
 mod standing;
+mod top;
 
 pub use koth_text::{put_escaped, put_number};
 pub use links::Links;
 pub use page::hill_page;
+pub use sign::{Address, Sign, TITLE};

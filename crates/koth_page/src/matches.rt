@@ -2,14 +2,15 @@
 
 ghost use Rattle.std.specs.{Prelude.{◌≡◌, ◌+◌, ◌<◌, ◌≤◌, ◌^◌, ◌++◌, length, codes, decimal, OnOk}, List.{enumerate_from, flat_map}};
 ghost use Rattle.koth_hill.specs.Rows.{row_parts, rows_parts};
-ghost use Rattle.koth_page.specs.Matches.{fought_cell, fought_text, link_start, match_cell, matches_heading, matches_row, matches_rows, matches_text, rank_heading, rounds_text, sides_text};
+ghost use Rattle.koth_page.specs.Matches.{cell_start, fought_cell, fought_text, label_text, link_start, match_cell, matches_heading, matches_row, matches_rows, matches_text, pair_text, rank_heading, rounds_text, row_heading, sides_text};
 
-use crate::cells::{number_cell, put_name_cell};
+use crate::cells::number_cell;
 use crate::links::Links;
 use crate::parts::{MATCHES_START, TABLE_END};
+use crate::shade::put_shade;
 use koth_hill::{Hill, Row};
 use koth_text::Piece::{Escaped, Number, Text};
-use koth_text::{Line, Tally, put_all, put_line};
+use koth_text::{Line, Tally, put_all, put_escaped, put_line, put_number};
 use koth_views::between;
 use std::alloc::{AllocError, Allocator};
 
@@ -32,7 +33,9 @@ pub(crate) fn put_matches<A: Allocator, B: Allocator>(
 fn put_heading<A: Allocator>(page: &mut Vec<u8, A>, rows: &[Row<'_>]) -> Result<(), AllocError>
     ensures { OnOk result (page.new.items ≡ page.old.items ++ matches_heading (rows_parts rows.now)) }
 {
-    page.extend_from_slice(b"<thead><tr><th>rank</th><th class=\"name\">warrior</th>")?;
+    page.extend_from_slice(
+        b"<thead><tr><th scope=\"col\">rank</th><th scope=\"col\" class=\"name\">warrior</th>",
+    )?;
     put_rank_headings(page, rows)?;
     page.extend_from_slice(b"</tr></thead>\n")?;
     Ok(())
@@ -52,7 +55,6 @@ fn put_rank_headings<A: Allocator>(
 }
 
 /// Puts the heading of the column of a rank, which names the warrior.
-#[tactic(auto, unfolding(crate::specs::Matches::rank_heading))]
 fn put_rank_heading<A: Allocator>(
     page: &mut Vec<u8, A>,
     rank: u64,
@@ -60,16 +62,12 @@ fn put_rank_heading<A: Allocator>(
 ) -> Result<(), AllocError>
     ensures { OnOk result (page.new.items ≡ page.old.items ++ rank_heading rank (row_parts row.now)) }
 {
-    put_all(
-        page,
-        &[
-            Text(b"<th title=\""),
-            Escaped(row.name.bytes()),
-            Text(b"\">"),
-            Number(rank),
-            Text(b"</th>"),
-        ],
-    )
+    page.extend_from_slice(b"<th scope=\"col\" title=\"")?;
+    put_escaped(page, row.name.bytes())?;
+    page.extend_from_slice(b"\">")?;
+    put_number(page, rank)?;
+    page.extend_from_slice(b"</th>")?;
+    Ok(())
 }
 
 fn put_rows<A: Allocator, B: Allocator>(
@@ -102,9 +100,21 @@ fn put_row<A: Allocator, B: Allocator>(
 {
     page.extend_from_slice(b"<tr>")?;
     put_line(page, number_cell(rank))?;
-    put_name_cell(page, row.name.bytes())?;
+    put_row_heading(page, row)?;
     put_cells(page, hill, links, row, rows)?;
     page.extend_from_slice(b"</tr>\n")
+}
+
+/// Puts the name of the warrior of a row, by which links name it too.
+fn put_row_heading<A: Allocator>(page: &mut Vec<u8, A>, row: &Row<'_>) -> Result<(), AllocError>
+    ensures { OnOk result (page.new.items ≡ page.old.items ++ row_heading (row_parts row.now)) }
+{
+    page.extend_from_slice(b"<th scope=\"row\" class=\"name\" id=\"w")?;
+    put_number(page, row.entry)?;
+    page.extend_from_slice(b"\">")?;
+    put_escaped(page, row.name.bytes())?;
+    page.extend_from_slice(b"</th>")?;
+    Ok(())
 }
 
 fn put_cells<A: Allocator, B: Allocator>(
@@ -143,6 +153,7 @@ fn put_cell<A: Allocator, B: Allocator>(
 }
 
 /// Puts the cell of two that fought, from the side of the first.
+#[tactic(auto, unfolding(crate::specs::Matches::fought_cell))]
 fn put_fought_cell<A: Allocator>(
     page: &mut Vec<u8, A>,
     links: Links,
@@ -150,53 +161,36 @@ fn put_fought_cell<A: Allocator>(
     row: &Row<'_>,
     other: &Row<'_>,
 ) -> Result<(), AllocError>
+    requires won { rounds.won ≤ 65535 }
+    requires lost { rounds.lost ≤ 65535 }
+    requires tied { rounds.tied ≤ 65535 }
     ensures { OnOk result (page.new.items ≡ page.old.items
         ++ fought_cell links rounds (row_parts row.now) (row_parts other.now)) }
 {
-    page.extend_from_slice(b"<td title=\"")?;
-    put_sides(page, row, other)?;
-    page.extend_from_slice(b"\">")?;
+    put_cell_start(page, rounds, row, other)?;
     put_fought(page, links, rounds, row, other)?;
-    page.extend_from_slice(b"</td>")?;
-    Ok(())
+    page.extend_from_slice(b"</td>")
 }
 
-/// Puts the rounds of two that fought, in a link to the first round if rounds are linked.
-#[tactic(auto, unfolding(crate::specs::Matches::fought_text))]
-fn put_fought<A: Allocator>(
+/// Puts what begins the cell of two that fought: its shade, and who they are.
+fn put_cell_start<A: Allocator>(
     page: &mut Vec<u8, A>,
-    links: Links,
     rounds: Tally,
     row: &Row<'_>,
     other: &Row<'_>,
 ) -> Result<(), AllocError>
+    requires won { rounds.won ≤ 65535 }
+    requires lost { rounds.lost ≤ 65535 }
+    requires tied { rounds.tied ≤ 65535 }
     ensures { OnOk result (page.new.items ≡ page.old.items
-        ++ fought_text links rounds (row_parts row.now) (row_parts other.now)) }
+        ++ cell_start rounds (row_parts row.now) (row_parts other.now)) }
 {
-    match links {
-        Links::None => put_line(page, rounds_line(rounds)),
-        Links::Rounds => {
-            let older = row.entry.min(other.entry);
-            let younger = row.entry.max(other.entry);
-            put_line(page, link_start(older, younger))?;
-            put_line(page, rounds_line(rounds))?;
-            page.extend_from_slice(b"</a>")
-        }
-    }
-}
-
-/// What begins a link to the first round of a match.
-#[tactic(auto, unfolding(crate::specs::Matches::link_start))]
-fn link_start(older: u64, younger: u64) -> Line
-    ensures { result ≡ link_start older younger }
-{
-    let mut line = Line::new();
-    line.put(b"<a href=\"/replay/");
-    line.put_number(older);
-    line.put(b"/");
-    line.put_number(younger);
-    line.put(b"/1\">");
-    line
+    page.extend_from_slice(b"<td class=\"")?;
+    put_shade(page, rounds)?;
+    page.extend_from_slice(b"\" title=\"")?;
+    put_sides(page, row, other)?;
+    page.extend_from_slice(b"\">")?;
+    Ok(())
 }
 
 /// Puts who fought whom.
@@ -218,15 +212,80 @@ fn put_sides<'r, A: Allocator>(
     )
 }
 
+/// Puts the rounds of two that fought, in a link to the first round if rounds are linked.
+#[tactic(auto, unfolding(crate::specs::Matches::fought_text))]
+fn put_fought<A: Allocator>(
+    page: &mut Vec<u8, A>,
+    links: Links,
+    rounds: Tally,
+    row: &Row<'_>,
+    other: &Row<'_>,
+) -> Result<(), AllocError>
+    ensures { OnOk result (page.new.items ≡ page.old.items
+        ++ fought_text links rounds (row_parts row.now) (row_parts other.now)) }
+{
+    match links {
+        Links::None => put_line(page, rounds_line(rounds)),
+        Links::Rounds => {
+            let older = row.entry.min(other.entry);
+            let younger = row.entry.max(other.entry);
+            put_line(page, link_start(older, younger))?;
+            put_label(page, row.entry, other.entry)?;
+            put_line(page, rounds_line(rounds))?;
+            page.extend_from_slice(b"</a>")
+        }
+    }
+}
+
+/// What begins a link to the first round of a match.
+#[tactic(auto, unfolding(crate::specs::Matches::link_start))]
+fn link_start(older: u64, younger: u64) -> Line
+    ensures { result ≡ link_start older younger }
+{
+    let mut line = Line::new();
+    line.put(b"<a href=\"/replay/");
+    line.put_number(older);
+    line.put(b"/");
+    line.put_number(younger);
+    line.put(b"/1\"");
+    line
+}
+
+/// Puts what a link is called: the names of the two in the headings of their rows, and then its own text.
+#[tactic(auto, unfolding(crate::specs::Matches::label_text))]
+fn put_label<A: Allocator>(page: &mut Vec<u8, A>, one: u64, other: u64) -> Result<(), AllocError>
+    ensures { OnOk result (page.new.items ≡ page.old.items ++ label_text one other) }
+{
+    put_pair(page, b" id=\"m", one, b"-", other)?;
+    put_pair(page, b"\" aria-labelledby=\"w", one, b" vs w", other)?;
+    put_pair(page, b" m", one, b"-", other)?;
+    page.extend_from_slice(b"\">")?;
+    Ok(())
+}
+
+#[tactic(auto, unfolding(crate::specs::Matches::pair_text))]
+fn put_pair<'t, A: Allocator>(
+    page: &mut Vec<u8, A>,
+    before: &'t [u8],
+    one: u64,
+    between: &'t [u8],
+    other: u64,
+) -> Result<(), AllocError>
+    ensures { OnOk result (page.new.items ≡ page.old.items ++ pair_text before.now one between.now other) }
+{
+    put_all(
+        page,
+        &[Text(before), Number(one), Text(between), Number(other)],
+    )
+}
+
 #[tactic(auto, unfolding(crate::specs::Matches::rounds_text))]
 fn rounds_line(rounds: Tally) -> Line
     ensures { result ≡ rounds_text rounds }
 {
     let mut line = Line::new();
     line.put_number(rounds.won);
-    line.put(b"/");
+    line.put(b"-");
     line.put_number(rounds.lost);
-    line.put(b"/");
-    line.put_number(rounds.tied);
     line
 }

@@ -1,14 +1,16 @@
 //! The settings of a hill.
 
-ghost use Rattle.std.specs.Prelude.{◌≡◌, ◌++◌, codes, OnOk};
-ghost use Rattle.koth_page.specs.Settings.{machine_text, rules_text, setting_text, settings_text};
+ghost use Rattle.std.specs.Prelude.{◌≡◌, ◌==◌, if◌then◌else◌, ◌++◌, [], codes, OnOk};
+ghost use Rattle.koth_page.specs.Settings.{limit_text, limits_text, machine_text, rules_text, setting_text, settings_text};
 
+use crate::parts::RULES;
 use koth_text::Piece::{Number, Text};
 use koth_text::put_all;
 use std::alloc::{AllocError, Allocator};
 use war_types::Settings;
 
-/// Puts the settings, each by what it is called. The seed stays secret.
+/// Puts the settings in a line that opens what they mean. Limits are among them where they are on, and the seed stays
+/// secret.
 #[tactic(auto, unfolding(crate::specs::Settings::settings_text))]
 pub(crate) fn put_settings<A: Allocator>(
     page: &mut Vec<u8, A>,
@@ -16,31 +18,68 @@ pub(crate) fn put_settings<A: Allocator>(
 ) -> Result<(), AllocError>
     ensures { OnOk result (page.new.items ≡ page.old.items ++ settings_text settings.now) }
 {
-    page.extend_from_slice(b"<dl>\n")?;
     put_machine(page, settings)?;
     put_rules(page, settings)?;
-    page.extend_from_slice(b"</dl>\n")
+    put_limits(page, settings)?;
+    page.extend_from_slice(RULES)
 }
 
 #[tactic(auto, unfolding(crate::specs::Settings::machine_text))]
 fn put_machine<A: Allocator>(page: &mut Vec<u8, A>, settings: &Settings) -> Result<(), AllocError>
     ensures { OnOk result (page.new.items ≡ page.old.items ++ machine_text settings.now) }
 {
-    put_setting(page, b"core size", u64::from(settings.core()))?;
-    put_setting(page, b"cycles", u64::from(settings.cycles()))?;
-    put_setting(page, b"processes", u64::from(settings.processes()))?;
-    put_setting(page, b"read limit", u64::from(settings.read_limit()))?;
-    put_setting(page, b"write limit", u64::from(settings.write_limit()))
+    put_setting(
+        page,
+        b"<details>\n<summary>Settings: core ",
+        u64::from(settings.core()),
+    )?;
+    put_setting(page, b", cycles ", u64::from(settings.cycles()))?;
+    put_setting(page, b", processes ", u64::from(settings.processes()))
 }
 
 #[tactic(auto, unfolding(crate::specs::Settings::rules_text))]
 fn put_rules<A: Allocator>(page: &mut Vec<u8, A>, settings: &Settings) -> Result<(), AllocError>
     ensures { OnOk result (page.new.items ≡ page.old.items ++ rules_text settings.now) }
 {
-    put_setting(page, b"length", u64::from(settings.length()))?;
-    put_setting(page, b"distance", u64::from(settings.distance()))?;
-    put_setting(page, b"rounds", u64::from(settings.rounds()))?;
-    put_setting(page, b"places", u64::from(settings.capacity()))
+    put_setting(page, b", length ", u64::from(settings.length()))?;
+    put_setting(page, b", distance ", u64::from(settings.distance()))?;
+    put_setting(page, b", rounds ", u64::from(settings.rounds()))?;
+    put_setting(page, b", places ", u64::from(settings.capacity()))
+}
+
+#[tactic(auto, unfolding(crate::specs::Settings::limits_text))]
+fn put_limits<A: Allocator>(page: &mut Vec<u8, A>, settings: &Settings) -> Result<(), AllocError>
+    ensures { OnOk result (page.new.items ≡ page.old.items ++ limits_text settings.now) }
+{
+    let core = u64::from(settings.core());
+    put_limit(
+        page,
+        b", read limit ",
+        u64::from(settings.read_limit()),
+        core,
+    )?;
+    put_limit(
+        page,
+        b", write limit ",
+        u64::from(settings.write_limit()),
+        core,
+    )
+}
+
+/// Puts a limit in a core of this size, if it is on.
+#[tactic(auto, unfolding(crate::specs::Settings::limit_text))]
+fn put_limit<A: Allocator>(
+    page: &mut Vec<u8, A>,
+    name: &[u8],
+    limit: u64,
+    core: u64,
+) -> Result<(), AllocError>
+    ensures { OnOk result (page.new.items ≡ page.old.items ++ limit_text name.now limit core) }
+{
+    if limit == core {
+        return Ok(());
+    }
+    put_setting(page, name, limit)
 }
 
 #[tactic(auto, unfolding(crate::specs::Settings::setting_text))]
@@ -51,14 +90,5 @@ fn put_setting<A: Allocator>(
 ) -> Result<(), AllocError>
     ensures { OnOk result (page.new.items ≡ page.old.items ++ setting_text name.now number) }
 {
-    put_all(
-        page,
-        &[
-            Text(b"<div><dt>"),
-            Text(name),
-            Text(b"</dt><dd>"),
-            Number(number),
-            Text(b"</dd></div>\n"),
-        ],
-    )
+    put_all(page, &[Text(name), Number(number)])
 }

@@ -1,18 +1,18 @@
 //! The table of a hill.
 
 ghost use Rattle.std.specs.Prelude.{◌≡◌, ◌+◌, ◌<◌, ◌^◌, ◌++◌, ◌∷◌, [], length, codes, OnOk};
-ghost use Rattle.{koth_hill.specs.Rows.{row_parts, rows_parts}, koth_views.specs.Tally.against_all, koth_page.specs.Standing.{standing_heading, standing_row, standing_rows, standing_text}};
+ghost use Rattle.{koth_hill.specs.Rows.{row_parts, rows_parts}, koth_views.specs.Tally.against_all, koth_page.specs.Standing.{ranked_text, standing_heading, standing_row, standing_rows, standing_text}};
 
-use crate::cells::{put_name_cell, put_number_cells};
+use crate::cells::{number_cell, put_name_cell, put_name_heading, put_number_cells};
 use crate::parts::{STANDING_START, TABLE_END};
 use koth_hill::{Hill, Row};
 use koth_text::Piece::Text;
-use koth_text::{Tally, put_all};
+use koth_text::{Tally, put_all, put_line};
 use koth_views::against_all;
 use std::alloc::{AllocError, Allocator};
 
-/// Puts the table of these rows: by rank, with entry, points, rounds won, lost and tied against all others, age, name
-/// and author.
+/// Puts the table of these rows: by rank, with name, author, points, rounds won, lost and tied against all others, age
+/// and entry.
 pub(crate) fn put_standing<A: Allocator, B: Allocator>(
     page: &mut Vec<u8, A>,
     hill: &Hill<B>,
@@ -34,9 +34,14 @@ fn put_heading<A: Allocator>(page: &mut Vec<u8, A>) -> Result<(), AllocError>
     put_all(
         page,
         &[
-            Text(b"<thead><tr><th>rank</th><th>entry</th><th>points</th>"),
-            Text(b"<th>won</th><th>lost</th><th>tied</th><th>age</th>"),
-            Text(b"<th class=\"name\">warrior</th><th class=\"name\">author</th></tr></thead>\n"),
+            Text(
+                b"<thead><tr><th scope=\"col\">rank</th><th scope=\"col\" class=\"name\">warrior</th>",
+            ),
+            Text(b"<th scope=\"col\" class=\"name\">author</th><th scope=\"col\">points</th>"),
+            Text(
+                b"<th scope=\"col\">won</th><th scope=\"col\">lost</th><th scope=\"col\">tied</th>",
+            ),
+            Text(b"<th scope=\"col\">age</th><th scope=\"col\">entry</th></tr></thead>\n"),
         ],
     )
 }
@@ -64,20 +69,32 @@ fn put_row<A: Allocator>(
 ) -> Result<(), AllocError>
     ensures { OnOk result (page.new.items ≡ page.old.items ++ standing_row rank (row_parts row.now) rounds) }
 {
-    page.extend_from_slice(b"<tr>")?;
+    put_ranked(page, rank, row)?;
     put_number_cells(
         page,
         &[
-            rank,
-            row.entry,
             u64::from(row.score),
             rounds.won,
             rounds.lost,
             rounds.tied,
             row.age,
+            row.entry,
         ],
     )?;
-    put_name_cell(page, row.name.bytes())?;
-    put_name_cell(page, row.author.bytes())?;
     page.extend_from_slice(b"</tr>\n")
+}
+
+/// Puts the rank of a warrior, and whose it is.
+#[tactic(auto, unfolding(crate::specs::Standing::ranked_text))]
+fn put_ranked<A: Allocator>(
+    page: &mut Vec<u8, A>,
+    rank: u64,
+    row: &Row<'_>,
+) -> Result<(), AllocError>
+    ensures { OnOk result (page.new.items ≡ page.old.items ++ ranked_text rank (row_parts row.now)) }
+{
+    page.extend_from_slice(b"<tr>")?;
+    put_line(page, number_cell(rank))?;
+    put_name_heading(page, row.name.bytes())?;
+    put_name_cell(page, row.author.bytes())
 }

@@ -2,9 +2,9 @@
 use Rattle.std.proofs.Common.{◌≡◌, ◌≢◌, ◌⊎◌, ℕ, Bool, Bor, true, false, true≢false, if◌then◌else◌, is_some, ap, List, [], IfOk, Option, None, Some, Result, Ok, Err, inl, inr, ◌∙◌, refl, sym, subst, codes, option_map}
 use Rattle.{std.specs.{Prelude.{⊤, unwrap_or}, Str.bytes_eq}, std.proofs.{KnownBytes.{Consumes-nil, Keeps-refl}}, std.specs.Io.KnownBytes.Keeps, clap.specs.Walk.{Row, Text}}
 use Rattle.{clap.specs.Words.{first_of, one_of}, war_types.specs.{declared.settings.RawSettings.RawSettings, declared.settings.SettingsFault.SettingsFault, Settings.settings_of}}
-use Rattle.koth_words.specs.{Settings.{IsGiven, base_in, chosen_in, over, settings_in}, Sources.{Place, input_name, is_input as is_dash, place, place_named, places_named}, Words.{AsksBy, IsHelp, IsRefusal, given_in, has_flag, text_or_none, view_in}}
+use Rattle.koth_words.specs.{Settings.{IsGiven, base_in, chosen_in, over, settings_in}, Sources.{Place, input_name, is_input as is_dash, place, place_named, places_named}, Words.{AsksBy, IsHelp, IsRefusal, draws_seed, given_in, has_flag, text_or_none, view_in}}
 use Rattle.{koth_words.specs.{declared.settings.{Chosen.Chosen, Given.Given}, declared.requests.NoRequest.NoRequest}}
-use Rattle.koth_words.specs.{declared.requests.Request.Request, declared.requests.Request.TheVariants.{Asm, Check, Fight, Create, Submit, Show, Serve, Session, Audit, Migrate, Page, Replay, Try, Copy, Reseed}}
+use Rattle.koth_words.specs.{declared.requests.Request.Request, declared.requests.Request.TheVariants.{Asm, Check, Fight, Create, Submit, SubmitTo, Show, ShowTo, Serve, Session, Audit, Migrate, Page, Replay, Trace, Try, Copy, Reseed, Rank}}
 use Rattle.{koth_words.specs.{declared.requests.Source.Source, declared.requests.View.View}, koth_commands.specs.{Answer.{AnswerParts, EndsGiven}, Asm.{EndsAsmFrom, IsDoneFrom, status_of}}}
 use Rattle.koth_commands.specs.{Check.{EndsCheck, EndsCheckUnder, input_next}, Report.{Manner, manner_of, status_by}}
 use Rattle.{war_types.specs.{Warrior.WarriorParts, declared.fault.AsmFault.AsmFault}, redcode_asm.specs.Assembly.assembly, koth_commands.proofs.Checks.none_checked, koth_server.proofs.Statuses.{IsNone, delivered}}
@@ -12,9 +12,10 @@ use Rattle.koth_commands.specs.{Streams.{From, Streams, TakesSome, at_input, is_
 use Rattle.koth_commands.proofs.Told.{kept_part, writes_nothing}
 use Rattle.koth_keeping.specs.{Answers.{Answers, AnswersGiven, Ends, Outcome, SaysLine}, Created.{MayCreate, SaysCreated}, Audit.SaysAudit, Copies.{MayReseed, SaysCopied}, Migration.migrated_line, Seed.seed_hint}
 use Rattle.koth_hills.specs.{Hills.{AfterNote, EndsSource, SaysReply, SaysShown, TellsNote, sight_of}, Page.SaysPage, Trials.SaysTrial}
-use Rattle.koth_server.specs.{Serving.{EndsServe, EndsService, listening_line}, Session.EndsOnFile, Run.{CommandEnds, SessionEnds, EndsRequest, EndsRequestUnder, EndsHelp, EndsWithout, AreWatched, FightEnds, ReplayEnds, manner_in, sight_in, viewed}, Settled.{AreSettled, EndsBy, EndsSettled, EndsUnderGiven, TellsNoHill, names_hill}}
-use Rattle.koth_words.specs.declared.requests.{Fighters.Fighters, Round.Round}
-use Rattle.koth_contests.specs.{Fight.{EndsFight, EndsFightUnder}, Replay.{EndsReplay, EndsReplayUnder, with_round}}
+use Rattle.koth_server.specs.{Serving.{EndsMade, EndsServe, EndsService, TellsServeFault, listening_line}, Session.EndsOnFile, Run.{CommandEnds, SessionEnds, EndsRequest, EndsRequestUnder, EndsHelp, EndsWithout, AreTraced, AreWatched, FightEnds, RankEnds, ReplayEnds, ShowEnds, SubmitEnds, TraceEnds, manner_in, sight_in, viewed}, Settled.{AreSettled, EndsBy, EndsSettled, EndsUnderGiven, TellsNoHill, names_hill}}
+use Rattle.koth_words.specs.declared.requests.{Fighters.Fighters, Form.Form, Ranking.Ranking, Round.Round}
+use Rattle.{koth_contests.specs.{Fight.{EndsFight, EndsFightUnder}, declared.meeting.Terms.Terms}, koth_rank.specs.Rank.{EndsRank, EndsRankUnder}, koth_remote.specs.Remote.MayShowTo}
+use Rattle.koth_rounds.specs.{Asked.with_round, Replay.{EndsReplay, EndsReplayUnder}, Trace.{EndsTrace, EndsTraceUnder}}
 
 -- one fact or the other
 abbrev Either : Bool → Type 0 → Type 0 → Type 0
@@ -39,17 +40,19 @@ EndsNamed name view given status before after =
     (Either (bytes_eq name (codes "check")) (EndsBy given (λ s. EndsCheck (manner_in given) (places_named (codes "SOURCE") given) (settings_of s) status before after) status before after)
     (Either (bytes_eq name (codes "fight")) (EndsBy given (λ s. FightEnds given shown (settings_of s) status u v) status before after)
     (Either (bytes_eq name (codes "create")) (EndsBy given (λ s. Ends (MayCreate (has_flag (codes "draw-seed") given) s) status u v) status before after)
-    (Either (bytes_eq name (codes "submit")) (AfterNote (EndsSource (reads_in given) (SaysReply shown) status) before after)
-    (Either (bytes_eq name (codes "show")) (AfterNote (Ends (Answers (SaysShown shown (sight_in given))) status) u v)
+    (Either (bytes_eq name (codes "submit")) (SubmitEnds view given (reads_in given) status before after)
+    (Either (bytes_eq name (codes "show")) (ShowEnds view given status u v)
     (Either (bytes_eq name (codes "audit")) (AfterNote (Ends (Answers (SaysAudit shown)) status) u v)
     (Either (bytes_eq name (codes "migrate")) (Ends (Answers (SaysLine migrated_line)) status u v)
     (Either (bytes_eq name (codes "page")) (AfterNote (Ends (Answers SaysPage) status) u v)
-    (Either (bytes_eq name (codes "serve")) (AfterNote (EndsServe (settings_of (settings_in given)) status) u v)
+    (Either (bytes_eq name (codes "serve")) (AfterNote (EndsServe (draws_seed given) (settings_in given) status) u v)
     (Either (bytes_eq name (codes "session")) (AfterNote (SessionEnds given status) before after)
     (Either (bytes_eq name (codes "replay")) (EndsBy given (λ s. ReplayEnds given (settings_of s) status u v) status before after)
+    (Either (bytes_eq name (codes "trace")) (EndsBy given (λ s. TraceEnds given (settings_of s) status u v) status before after)
     (Either (bytes_eq name (codes "try")) (AfterNote (EndsSource (reads_in given) (SaysTrial shown) status) before after)
     (Either (bytes_eq name (codes "copy")) (AfterNote (Ends (Answers (SaysCopied (has_flag (codes "audit") given))) status) u v)
-    (Either (bytes_eq name (codes "reseed")) (AfterNote (Ends MayReseed status) u v) ⊤))))))))))))))
+    (Either (bytes_eq name (codes "reseed")) (AfterNote (Ends MayReseed status) u v)
+    (Either (bytes_eq name (codes "rank")) (EndsBy given (λ s. RankEnds given shown (settings_of s) status u v) status before after) ⊤))))))))))))))))
 
 -- ---- a request: the command that the arguments name ended so, under the settings that they give
 
@@ -125,15 +128,22 @@ module _ (view : View) (e : Text × List Row) (status : Status) (before after : 
       (by_words e.1 given (Under (Create given creation)) (λ s. Ends (MayCreate (has_flag (codes "draw-seed") e.1) s) status (unread before) (unread after)) status before after asks.1
       (λ s ended. subst (λ d. Ends (MayCreate d s) status (unread before) (unread after)) asks.4 ended) ends.0)
   named (Submit files) asks ends = subst Carries (sym asks.0)
-      (subst (λ b. AfterNote (EndsSource b (SaysReply (viewed (view_in e.1) view)) status) before after) (same_source files.source e.1 asks.2)
-      (subst (λ v. AfterNote (EndsSource (is_input files.source) (SaysReply (viewed v view)) status) before after) asks.3 ends.0.1))
+      (λ here. subst (λ b. AfterNote (EndsSource b (SaysReply (viewed (view_in e.1) view)) status) before after) (same_source files.source e.1 asks.3)
+      (subst (λ v. AfterNote (EndsSource (is_input files.source) (SaysReply (viewed v view)) status) before after) asks.4 ends.0.1))
+  named (SubmitTo given sent) asks ends = subst Carries (sym asks.0)
+      (λ here. absurd (true≢false (sym asks.1 ∙ here)))
   named (Show shown) asks ends =
-      let same : sight_of shown ≡ sight_in e.1 = λ i. record { matches = asks.2 i; settings = asks.3 i; with_seed = asks.4 i } in
-      subst Carries (sym asks.0)
-      (subst (λ v. AfterNote (Ends (Answers (SaysShown (viewed v view) (sight_in e.1))) status) (unread before) (unread after)) asks.5
-      (subst (λ m. AfterNote (Ends (Answers (SaysShown (viewed shown.view view) m)) status) (unread before) (unread after)) same ends.0.1))
+      let same : sight_of shown ≡ sight_in e.1 = λ i. record { matches = asks.3 i; settings = asks.4 i; with_seed = asks.5 i } in
+      subst Carries (sym asks.0) (
+        (λ here. subst (λ v. AfterNote (Ends (Answers (SaysShown (viewed v view) (sight_in e.1))) status) (unread before) (unread after)) asks.6
+            (subst (λ m. AfterNote (Ends (Answers (SaysShown (viewed shown.view view) m)) status) (unread before) (unread after)) same ends.0.1)),
+        (λ there. absurd (true≢false (sym there ∙ asks.1))),
+      )
+  named (ShowTo shown) asks ends = subst Carries (sym asks.0)
+      ((λ here. absurd (true≢false (sym asks.1 ∙ here))), (λ there. ends.0.1))
   named (Serve given service) asks ends =
-      subst Carries (sym asks.0) (subst (λ s. AfterNote (EndsServe (settings_of s) status) (unread before) (unread after)) asks.1 ends.0.1)
+      subst Carries (sym asks.0) (subst (λ d. AfterNote (EndsServe d (settings_in e.1) status) (unread before) (unread after)) asks.16
+      (subst (λ s. AfterNote (EndsServe service.draw_seed s status) (unread before) (unread after)) asks.1 ends.0.1))
   named (Session session) asks ends = subst Carries (sym asks.0)
       (subst (λ h. AfterNote (EndsOnFile h status) before after) asks.1 ends.0.1)
   named (Audit audited) asks ends = subst Carries (sym asks.0)
@@ -145,11 +155,19 @@ module _ (view : View) (e : Text × List Row) (status : Status) (before after : 
       subst Carries (sym asks.0)
       (by_words e.1 given (Under (Replay given watched)) (λ s. ReplayEnds e.1 (settings_of s) status (unread before) (unread after)) status before after asks.1
       (λ s ended. inl (watched, are, ended)) ends.0)
+  named (Trace given traced) asks ends =
+      let are : AreTraced e.1 traced = record { older = asks.2; younger = asks.3; round = asks.4; last = asks.5; form = asks.6 } in
+      subst Carries (sym asks.0)
+      (by_words e.1 given (Under (Trace given traced)) (λ s. TraceEnds e.1 (settings_of s) status (unread before) (unread after)) status before after asks.1
+      (λ s ended. inl (traced, are, ended)) ends.0)
   named (Try files) asks ends = subst Carries (sym asks.0)
       (subst (λ b. AfterNote (EndsSource b (SaysTrial (viewed (view_in e.1) view)) status) before after) (same_source files.source e.1 asks.2)
       (subst (λ v. AfterNote (EndsSource (is_input files.source) (SaysTrial (viewed v view)) status) before after) asks.3 ends.0.1))
   named (Copy files) asks ends = subst Carries (sym asks.0) (subst (λ a. AfterNote (Ends (Answers (SaysCopied a)) status) (unread before) (unread after)) asks.3 ends.0.1)
   named (Reseed files) asks ends = subst Carries (sym asks.0) ends.0.1
+  named (Rank given ranking) asks ends = subst Carries (sym asks.0)
+      (by_words e.1 given (Under (Rank given ranking)) (λ s. RankEnds e.1 (viewed (view_in e.1) view) (settings_of s) status (unread before) (unread after)) status before after asks.1
+      (λ s ended. inl (ranking, asks.2, subst (λ v. EndsRank ranking (viewed v view) (settings_of s) status (unread before) (unread after)) asks.2.view ended)) ends.0)
 
 pub carried : (view : View) (entered : Option (Text × List Row)) (request : Request) (status : Status) (before after : Streams) (name : Text)
     → AsksBy entered request → EndsRequest view request status before after → option_map (λ e. e.0) entered ≡ Some name
@@ -189,7 +207,7 @@ check_word : (s : RawSettings) (how : Manner) (places : List Place) (status : St
 check_word s how places status before after (inl checked) is = by_none _ _ (sym checked.ends ∙ is)
 check_word s how places status before after (inr stopped) is = elim stopped.breaks [ inl failed ↦ absurd (cc) | inr memory ↦ absurd (cc) ]
 
--- nor do `check`, `fight` and `replay`
+-- nor do `check`, `fight`, `rank`, `replay` and `trace`
 pub check_no_word : (how : Manner) (places : List Place) (r : Result RawSettings SettingsFault) (status : Status) (before after : Streams)
     → EndsCheck how places r status before after → status ≢ WordFault
 check_no_word how places r status before after ends is =
@@ -207,11 +225,34 @@ fight_no_word fighters view r status before after ends is =
     (λ s ended. fight_word s fighters view before.output after.output before.errors after.errors ended)
     (subst (λ t. EndsFight fighters view r t before after) is ends)
 
+never_refused : WordFault ≡ Status.Refused → ⊥
+never_refused is = absurd (cc)
+
+never_lost : WordFault ≡ NoMemory → ⊥
+never_lost is = absurd (cc)
+
+rank_word : (s : RawSettings) (terms : Terms) (words : List Source) (o p e f : Option (List ℕ)) → EndsRankUnder s terms words WordFault o p e f → ⊥
+rank_word s terms words o p e f (inl ranked) = elim ranked.2 [ inl ends ↦ ends | inr many ↦ never_refused many.1 ]
+rank_word s terms words o p e f (inr memory) = never_lost memory.0
+
+pub rank_no_word : (ranking : Ranking) (view : View) (r : Result RawSettings SettingsFault) (status : Status) (before after : Streams)
+    → EndsRank ranking view r status before after → status ≢ WordFault
+rank_no_word ranking view r status before after ends is =
+    given_word (λ s end u v. EndsRankUnder s (record { both = ranking.both; view = view }) ranking.field.items end u.output v.output u.errors v.errors) r before after
+    (λ s ended. rank_word s (record { both = ranking.both; view = view }) ranking.field.items before.output after.output before.errors after.errors ended)
+    (subst (λ t. EndsRank ranking view r t before after) is ends)
+
 pub replay_no_word : (round : Round) (named : Bool) (r : Result RawSettings SettingsFault) (status : Status) (before after : Streams)
     → EndsReplay round named r status before after → status ≢ WordFault
 replay_no_word round named r status before after ends is =
     given_word (λ s end u v. EndsReplayUnder s round named end u.output v.output u.errors v.errors) (with_round round r) before after (λ s ended. ended)
     (subst (λ t. EndsReplay round named r t before after) is ends)
+
+pub trace_no_word : (round : Round) (last : Option ℕ) (form : Form) (r : Result RawSettings SettingsFault) (status : Status) (before after : Streams)
+    → EndsTrace round last form r status before after → status ≢ WordFault
+trace_no_word round last form r status before after ends is =
+    given_word (λ s end u v. EndsTraceUnder s round last form end u.output v.output u.errors v.errors) (with_round round r) before after (λ s ended. ended)
+    (subst (λ t. EndsTrace round last form r t before after) is ends)
 
 -- a request that is asked for ends as its command does
 pub request_ends : (settings : RawSettings) (view : View) (request asked : Request) (status : Status) (before after : Streams) → request ≡ asked
@@ -236,8 +277,8 @@ module _ (i o p e f : Option (List ℕ)) (kept : Keeps o p) (told : Tells no_mem
   source_no_memory true Says = record { outcome = Err no_memory; may = (refl, ([], Consumes-nil i)); delivered = (kept, told) }
   source_no_memory false Says = record { outcome = Err no_memory; may = ((refl, ([], tt)), Keeps-refl i); delivered = (kept, told) }
 
-  service_no_memory : EndsService NoMemory (streams i o e) (streams i p f)
-  service_no_memory = inr (record {
+  fault_no_memory : TellsServeFault NoMemory (streams i o e) (streams i p f)
+  fault_no_memory = record {
     trouble = no_memory;
     of_hill = refl;
     port = 0;
@@ -245,7 +286,7 @@ module _ (i o p e f : Option (List ℕ)) (kept : Keeps o p) (told : Tells no_mem
     logged = e;
     log = writes_nothing e;
     told = told;
-  })
+  }
 
 make_no_memory : (hint : List ℕ) (given : RawSettings) (r : Result RawSettings SettingsFault) → AnswersGiven (λ s. Answers (SaysCreated hint)) r (Err no_memory)
 make_no_memory hint given (Ok s) = refl
@@ -275,8 +316,12 @@ module _ (i o p e f : Option (List ℕ)) (kept : Keeps o p) (told : Tells no_mem
         breaks = inr (refl, none_taken (input_next places), kept, told.word);
       }))
 
-  serve_no_memory : (r : Result RawSettings SettingsFault) → EndsServe r NoMemory (streams None o e) (streams None p f)
-  serve_no_memory r = given_no_memory None o p e f kept told (λ s. EndsService) r (λ s. service_no_memory None o p e f kept told)
+  made_no_memory : (r : Result RawSettings SettingsFault) → EndsMade r NoMemory (streams None o e) (streams None p f)
+  made_no_memory r = given_no_memory None o p e f kept told (λ s. EndsService) r (λ s. inr (fault_no_memory None o p e f kept told))
+
+  serve_no_memory : (drawn : Bool) (given : RawSettings) → EndsServe drawn given NoMemory (streams None o e) (streams None p f)
+  serve_no_memory false given = inl (given, refl, made_no_memory (settings_of given))
+  serve_no_memory true given = inr (refl, fault_no_memory None o p e f kept told)
 
   session_no_memory : (path : Text) → EndsOnFile path NoMemory (streams i o e) (streams i p f)
   session_no_memory path = inr (record { trouble = no_memory; of_hill = refl; input = Keeps-refl i; output = kept; told = told })
@@ -305,17 +350,19 @@ module _ (i o p e f : Option (List ℕ)) (kept : Keeps o p) (told : Tells no_mem
       (either (bytes_eq name (codes "check")) _ _ (by_no_memory given (λ s. EndsCheck how places (settings_of s) NoMemory (streams i o e) (streams i p f)) (λ s. check_no_memory how places (settings_of s)))
       (either (bytes_eq name (codes "fight")) _ _ (by_no_memory given (λ s. FightEnds given shown (settings_of s) NoMemory u v) (λ s. inr (kept, told)))
       (either (bytes_eq name (codes "create")) _ _ (by_no_memory given (λ s. Ends (MayCreate drawn s) NoMemory u v) (λ s. may (MayCreate drawn s) (create_no_memory drawn s)))
-      (either (bytes_eq name (codes "submit")) _ _ (e, none, source_no_memory i o p e f kept told of_input (SaysReply shown))
-      (either (bytes_eq name (codes "show")) _ _ (e, none, may (Answers (SaysShown shown (sight_in given))) refl)
+      (either (bytes_eq name (codes "submit")) _ _ (λ here. (e, none, source_no_memory i o p e f kept told of_input (SaysReply shown)))
+      (either (bytes_eq name (codes "show")) _ _ ((λ here. (e, none, may (Answers (SaysShown shown (sight_in given))) refl)), (λ there. may MayShowTo tt))
       (either (bytes_eq name (codes "audit")) _ _ (e, none, may (Answers (SaysAudit shown)) refl)
       (either (bytes_eq name (codes "migrate")) _ _ (may (Answers (SaysLine migrated_line)) refl)
       (either (bytes_eq name (codes "page")) _ _ (e, none, may (Answers SaysPage) refl)
-      (either (bytes_eq name (codes "serve")) _ _ (e, none, serve_no_memory (settings_of (settings_in given)))
+      (either (bytes_eq name (codes "serve")) _ _ (e, none, serve_no_memory (draws_seed given) (settings_in given))
       (either (bytes_eq name (codes "session")) _ _ (e, none, session_no_memory (text_or_none (first_of (codes "FILE") given)))
       (either (bytes_eq name (codes "replay")) _ _ (by_no_memory given (λ s. ReplayEnds given (settings_of s) NoMemory u v) (λ s. inr (kept, told)))
+      (either (bytes_eq name (codes "trace")) _ _ (by_no_memory given (λ s. TraceEnds given (settings_of s) NoMemory u v) (λ s. inr (kept, told)))
       (either (bytes_eq name (codes "try")) _ _ (e, none, source_no_memory i o p e f kept told of_input (SaysTrial shown))
       (either (bytes_eq name (codes "copy")) _ _ (e, none, may (Answers (SaysCopied (has_flag (codes "audit") given))) refl)
-      (either (bytes_eq name (codes "reseed")) _ ⊤ (e, none, may MayReseed tt) tt))))))))))))))
+      (either (bytes_eq name (codes "reseed")) _ _ (e, none, may MayReseed tt)
+      (either (bytes_eq name (codes "rank")) _ ⊤ (by_no_memory given (λ s. RankEnds given shown (settings_of s) NoMemory u v) (λ s. inr (kept, told))) tt))))))))))))))))
 
 module _ (i o p e f : Option (List ℕ)) (status : Status) where
   pub without : (name : Text) (view : View) (given : List Row) (none : NoRequest) → none ≡ NoRequest.Memory

@@ -4,7 +4,7 @@ use Rattle.war_types.specs.{declared.settings.{RawSettings.RawSettings, Settings
 use Rattle.{koth_hill.specs.declared.untrue.Untrue.Untrue, hill_store.specs.declared.reply.Reply.Reply}
 use Rattle.koth_commands.specs.{Answer.{AnswerParts, Delivers, answer_parts}, Streams.From, Trouble.fault_status, declared.{status.Status.Status, trouble.{Fault.Fault}}}
 use Rattle.koth_keeping.specs.{Answers.{Answers, AnswersGiven, Outcome, SaysLine}, Audit.{SaysAudit, audit_answer}, Copies.{MayReseed, SaysCopied}, Migration.migrated_line, Created.{MayCreate, SaysCreated}, Seed.seed_hint}
-use Rattle.{koth_words.specs.declared.requests.View.View, koth_hills.specs.{Hills.{AnswersSource, SaysReply, SaysShown, Sight}, Trials.SaysTrial, Page.SaysPage, ReplyStatus.reply_status}}
+use Rattle.{koth_words.specs.declared.requests.View.View, koth_hills.specs.{Hills.{AnswersSource, SaysReply, SaysShown, Sight}, Trials.SaysTrial, Page.SaysPage, ReplyStatus.reply_status}, koth_remote.specs.Remote.{EndsAsReply, EndsAsTable, MayShowTo, MaySubmitTo}}
 
 pub never-words : (fault : Fault) → fault_status fault ≡ Status.WordFault → ⊥
 never-words (Fault.Settings fault) is = absurd (cc)
@@ -95,6 +95,23 @@ shown view sight = answers (SaysShown view sight) (λ answer says. done _ _ answ
 
 pub paged : (outcome : Outcome) → Answers SaysPage outcome → IfOk outcome IsNone
 paged = answers SaysPage (λ answer says. done _ _ answer says.1)
+
+-- of a hill elsewhere
+as_reply : (status : Status) → EndsAsReply status → status ≢ Status.WordFault
+as_reply status (inl (reply, is)) word = reply_none reply (sym is ∙ word)
+as_reply status (inr fault) word = absurd (cc)
+
+as_table : (status : Status) → EndsAsTable status → status ≢ Status.WordFault
+as_table status (inl done) word = absurd (cc)
+as_table status (inr fault) word = absurd (cc)
+
+pub submitted_to : (outcome : Outcome) → MaySubmitTo outcome → IfOk outcome IsNone
+submitted_to (Ok answer) ends = as_reply answer.status ends
+submitted_to (Err trouble) ends = tt
+
+pub shown_to : (outcome : Outcome) → MayShowTo outcome → IfOk outcome IsNone
+shown_to (Ok answer) ends = as_table answer.status ends
+shown_to (Err trouble) ends = tt
 
 pub migrated : (outcome : Outcome) → Answers (SaysLine migrated_line) outcome → IfOk outcome IsNone
 migrated = answers (SaysLine migrated_line) (λ answer says. done _ _ answer says)

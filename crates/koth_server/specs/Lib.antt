@@ -1,6 +1,7 @@
 -- What a service writes before it serves, and how it ends.
 pub mod Serving
 -- The pages that browsers ask for.
+pub mod Sign
 pub mod Pages
 -- The settings under which a command is carried out.
 pub mod Settled

@@ -1,7 +1,8 @@
 -- The pages that browsers ask for.
-use Rattle.std.specs.Prelude.{◌≡◌, ⊤, ℕ, ◌<◌, Bool, true, false, List, Some, slice_get}
+use Rattle.std.specs.Prelude.{◌≡◌, ⊤, ℕ, ◌-◌, ◌^◌, ◌<◌, Bool, true, false, List, [], ◌++◌, Some, slice_get, codes, decimal}
 use Rattle.{war_types.specs.Warrior.WarriorParts, koth_hill.specs.{Hill.{Member, member_of}, Kept.Kept}, koth_http.specs.declared.target.Page.Page}
-use Rattle.{koth_page.specs.{Page.hill_page, declared.links.Links.Links}, koth_contests.specs.Replay.{has_round, IsRoundText}}
+use Rattle.{koth_page.specs.{Page.hill_page, Sign.SignParts, declared.links.Links.Links}, koth_rounds.specs.{Asked.has_round, Page.IsRoundText}}
+use Rattle.{koth_json.specs.Data.data_text, koth_words.specs.Settings.given_as}
 
 -- this warrior is on the hill, under this entry
 pub record HasWarrior (members : List Member) (entry : ℕ) (warrior : WarriorParts) : Type 0 where
@@ -25,9 +26,17 @@ abbrev pub links_for : Bool → Links
 links_for true = Links.Rounds
 links_for false = Links.None
 
--- a hill has this page: its own in any case, and rounds if its page links to them
+-- a hill takes warriors: not as many were judged as can be counted
+abbrev pub TakesWarriors : Kept → Type 0
+TakesWarriors hill = hill.counter < 2 ^ 64 - 1
+
+-- a hill has this page: its health if it takes warriors, rounds if its page links to them, and all others in any case
 abbrev pub HasPage : Links → Kept → Page → Type 0
 HasPage links hill Page.Hill = ⊤
+HasPage links hill Page.Data = ⊤
+HasPage links hill Page.Health = TakesWarriors hill
+HasPage links hill Page.Robots = ⊤
+HasPage links hill Page.Icon = ⊤
 HasPage Links.Rounds hill (Page.Round older younger round) = HasRound hill older younger round
 HasPage Links.None hill (Page.Round older younger round) = ⊥
 
@@ -42,8 +51,24 @@ pub record IsRoundOf (hill : Kept) (older younger round : ℕ) (text : List ℕ)
   pub second_stands : HasWarrior hill.members younger second
   pub shown : IsRoundText hill.settings first second round text
 
--- the text of a page of a hill: of a round if the hill's page links to rounds, and else of none
-abbrev pub IsShown : Links → Kept → Page → List ℕ → Type 0
-IsShown links hill Page.Hill text = text ≡ hill_page hill links
-IsShown Links.Rounds hill (Page.Round older younger round) text = IsRoundOf hill older younger round text
-IsShown Links.None hill (Page.Round older younger round) text = ⊥
+-- the hill as an object for programs, with its settings as options give them
+abbrev pub hill_data : Kept → List ℕ
+hill_data hill = data_text (given_as hill.settings) hill
+
+-- how many warriors it has judged
+abbrev pub health_text : ℕ → List ℕ
+health_text judged = codes "judged " ++ (decimal judged ++ codes "\n")
+
+-- programs that follow links are not to ask for rounds
+abbrev pub robots_text : List ℕ
+robots_text = codes "User-agent: *\nDisallow: /replay/\n"
+
+-- the text of a page of a hill with this sign: of a round if the hill's page links to rounds, and else of none
+abbrev pub IsShown : SignParts → Links → Kept → Page → List ℕ → Type 0
+IsShown sign links hill Page.Hill text = text ≡ hill_page hill sign links
+IsShown sign links hill Page.Data text = text ≡ hill_data hill
+IsShown sign links hill Page.Health text = TakesWarriors hill × (text ≡ health_text hill.counter)
+IsShown sign links hill Page.Robots text = text ≡ robots_text
+IsShown sign links hill Page.Icon text = text ≡ []
+IsShown sign Links.Rounds hill (Page.Round older younger round) text = IsRoundOf hill older younger round text
+IsShown sign Links.None hill (Page.Round older younger round) text = ⊥

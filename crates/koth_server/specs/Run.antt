@@ -1,9 +1,9 @@
 -- How a run ends.
-use Rattle.std.specs.{Prelude.{◌≡◌, ◌≢◌, ◌⊎◌, ◌||◌, ⊤, ℕ, List, Option, Result, codes, is_some, option_map, unwrap_or}, Io.KnownBytes.Keeps}
-use Rattle.{clap.specs.Words.{Row, first_of, one_of}, war_types.specs.{Settings.settings_of, declared.settings.{RawSettings.RawSettings, SettingsFault.SettingsFault}}, koth_words.specs.Sources.{place, place_named, places_named}}
-use Rattle.{koth_words.specs.declared.requests.{Fighters.Fighters, Watched.Watched}, koth_contests.specs.{Fight.EndsFight, Replay.EndsReplay}}
-use Rattle.koth_words.specs.{Words.{text_or_none, draw_seed_named, form_in, given_by, given_of, has_flag, has_option, matches_in, reads_input, round_in, settings_named, view_named, AreFighters, AreTaken, AreWrong, AskForHelp, AsksFor}, declared.requests.NoRequest.NoRequest}
-use Rattle.koth_words.specs.{declared.requests.Request.Request, declared.requests.Request.TheVariants.{Asm, Check, Fight, Create, Submit, Show, Serve, Session, Audit, Migrate, Page, Replay, Try, Copy, Reseed}}
+use Rattle.std.specs.{Prelude.{◌≡◌, ◌≢◌, ◌⊎◌, ◌||◌, ⊤, ℕ, Bool, false, true, List, Option, Result, codes, is_some, option_map, unwrap_or}, Io.KnownBytes.Keeps}
+use Rattle.{clap.specs.Words.{Row, first_of, one_of}, war_types.specs.{Settings.settings_of, declared.settings.{RawSettings.RawSettings, SettingsFault.SettingsFault}}, koth_words.specs.{Options.number_given, Sources.{place, place_named, places_named}}}
+use Rattle.{koth_words.specs.declared.requests.{Fighters.Fighters, Ranking.Ranking, Traced.Traced, Watched.Watched}, koth_contests.specs.Fight.EndsFight, koth_rounds.specs.{Replay.EndsReplay, Trace.EndsTrace}, koth_rank.specs.Rank.EndsRank, koth_remote.specs.Remote.MayShowTo}
+use Rattle.koth_words.specs.{Words.{text_or_none, draw_seed_named, draws_seed, form_in, given_by, given_of, has_flag, has_option, is_remote, matches_in, reads_input, round_in, settings_named, view_in, view_named, AreFighters, AreTaken, AreWrong, AskForHelp, AsksFor, NamesField}, declared.requests.NoRequest.NoRequest}
+use Rattle.koth_words.specs.{declared.requests.Request.Request, declared.requests.Request.TheVariants.{Asm, Check, Fight, Create, Submit, SubmitTo, Show, ShowTo, Serve, Session, Audit, Migrate, Page, Replay, Trace, Try, Copy, Reseed, Rank}}
 use Rattle.{koth_words.specs.declared.requests.View.View, koth_commands.specs.{Asm.EndsAsmFrom, Check.{EndsCheck, places_of}, Report.{Manner, manner_of}}}
 use Rattle.koth_commands.specs.{Status.status_code, Streams.{Streams, is_input, unread}, Trouble.{Tells, no_memory}, declared.status.Status.Status}
 use Rattle.koth_keeping.specs.{Answers.{Answers, Ends, SaysLine}, Created.MayCreate, Audit.SaysAudit, Copies.{MayReseed, SaysCopied}, Migration.migrated_line}
@@ -32,19 +32,25 @@ CommandEnds settings view (Fight given files) status before after =
     EndsFight files (viewed files.view view) (settings_of settings) status (unread before) (unread after)
 CommandEnds settings view (Create given creation) status before after = Ends (MayCreate creation.draw_seed settings) status (unread before) (unread after)
 CommandEnds settings view (Submit files) status before after = AfterNote (EndsSource (is_input files.source) (SaysReply (viewed files.view view)) status) before after
+CommandEnds settings view (SubmitTo given sent) status before after = ⊤
+CommandEnds settings view (ShowTo shown) status before after = Ends MayShowTo status (unread before) (unread after)
 CommandEnds settings view (Show shown) status before after =
     AfterNote (Ends (Answers (SaysShown (viewed shown.view view) (sight_of shown))) status) (unread before) (unread after)
 CommandEnds settings view (Audit audited) status before after =
     AfterNote (Ends (Answers (SaysAudit (viewed audited.view view))) status) (unread before) (unread after)
 CommandEnds settings view (Migrate files) status before after = Ends (Answers (SaysLine migrated_line)) status (unread before) (unread after)
 CommandEnds settings view (Page file) status before after = AfterNote (Ends (Answers SaysPage) status) (unread before) (unread after)
-CommandEnds settings view (Serve given service) status before after = AfterNote (EndsServe (settings_of given) status) (unread before) (unread after)
+CommandEnds settings view (Serve given service) status before after = AfterNote (EndsServe service.draw_seed given status) (unread before) (unread after)
 CommandEnds settings view (Session session) status before after = AfterNote (EndsOnFile session.hill.now status) before after
 CommandEnds settings view (Replay given watched) status before after =
     EndsReplay watched.round (is_some watched.page) (settings_of settings) status (unread before) (unread after)
+CommandEnds settings view (Trace given traced) status before after =
+    EndsTrace traced.round traced.last traced.form (settings_of settings) status (unread before) (unread after)
 CommandEnds settings view (Try files) status before after = AfterNote (EndsSource (is_input files.source) (SaysTrial (viewed files.view view)) status) before after
 CommandEnds settings view (Copy files) status before after = AfterNote (Ends (Answers (SaysCopied files.audit)) status) (unread before) (unread after)
 CommandEnds settings view (Reseed files) status before after = AfterNote (Ends MayReseed status) (unread before) (unread after)
+CommandEnds settings view (Rank given ranking) status before after =
+    EndsRank ranking (viewed ranking.view view) (settings_of settings) status (unread before) (unread after)
 
 -- the same, and never as at a fault of the arguments
 abbrev pub EndsRequestUnder : RawSettings → View → Request → Status → Streams → Streams → Type 0
@@ -92,6 +98,11 @@ abbrev pub FightEnds : List Row → View → Result RawSettings SettingsFault �
 FightEnds rows view settings status before after =
     ((fighters : Fighters) × AreFighters rows fighters × EndsFight fighters view settings status before after) ⊎ LacksMemory status before after
 
+-- how `rank` of the field that these words name ends
+abbrev pub RankEnds : List Row → View → Result RawSettings SettingsFault → Status → Streams → Streams → Type 0
+RankEnds rows view settings status before after =
+    ((ranking : Ranking) × NamesField rows ranking × EndsRank ranking view settings status before after) ⊎ LacksMemory status before after
+
 -- the sources, the round and the file for the page are those of these words
 pub record AreWatched (rows : List Row) (watched : Watched) : Type 0 where
   pub older : place watched.older ≡ place_named (codes "MINE") rows
@@ -103,6 +114,30 @@ pub record AreWatched (rows : List Row) (watched : Watched) : Type 0 where
 abbrev pub ReplayEnds : List Row → Result RawSettings SettingsFault → Status → Streams → Streams → Type 0
 ReplayEnds rows settings status before after =
     ((watched : Watched) × AreWatched rows watched × EndsReplay watched.round (is_some watched.page) settings status before after) ⊎ LacksMemory status before after
+
+-- the sources, the round, how many of its turns, and their form are those of these words
+pub record AreTraced (rows : List Row) (traced : Traced) : Type 0 where
+  pub older : place traced.older ≡ place_named (codes "MINE") rows
+  pub younger : place traced.younger ≡ place_named (codes "OTHER") rows
+  pub round : traced.round ≡ round_in rows
+  pub last : traced.last ≡ number_given 4294967296 (one_of (codes "last") rows)
+  pub form : traced.form ≡ form_in rows
+
+-- how `trace` of what these words name ends
+abbrev pub TraceEnds : List Row → Result RawSettings SettingsFault → Status → Streams → Streams → Type 0
+TraceEnds rows settings status before after =
+    ((traced : Traced) × AreTraced rows traced × EndsTrace traced.round traced.last traced.form settings status before after) ⊎ LacksMemory status before after
+
+-- how `submit` of what these words name ends on a hill in a file; what is told of one elsewhere is `koth_remote`'s
+abbrev pub SubmitEnds : View → List Row → Bool → Status → Streams → Streams → Type 0
+SubmitEnds view rows of_input status before after =
+    is_remote rows ≡ false → AfterNote (EndsSource of_input (SaysReply (viewed (view_in rows) view)) status) before after
+
+-- how `show` of what these words name ends: of a hill in a file, or of one elsewhere
+abbrev pub ShowEnds : View → List Row → Status → Streams → Streams → Type 0
+ShowEnds view rows status before after =
+    (has_option (codes "to") rows ≡ false → AfterNote (Ends (Answers (SaysShown (viewed (view_in rows) view) (sight_in rows))) status) before after)
+    × (has_option (codes "to") rows ≡ true → Ends MayShowTo status before after)
 
 -- How a run with these arguments ends, if tables are in this view unless the arguments ask for one: as the command that
 -- they name does, under the settings that they give. Only wrong arguments end as a fault of the arguments, and then
@@ -116,24 +151,26 @@ pub record EndsRun (view : View) (given : List (List ℕ)) (status : Status) (be
       → EndsBy (given_by given) (λ s. FightEnds (given_by given) (viewed (view_named given) view) (settings_of s) status (unread before) (unread after)) status before after
   pub create : AsksFor view (codes "create") given
       → EndsBy (given_by given) (λ s. Ends (MayCreate (draw_seed_named given) s) status (unread before) (unread after)) status before after
-  pub submit : AsksFor view (codes "submit") given
-      → AfterNote (EndsSource (reads_input given) (SaysReply (viewed (view_named given) view)) status) before after
-  pub show : AsksFor view (codes "show") given
-      → AfterNote (Ends (Answers (SaysShown (viewed (view_named given) view) (sight_in (given_by given)))) status) (unread before) (unread after)
+  pub submit : AsksFor view (codes "submit") given → SubmitEnds view (given_by given) (reads_input given) status before after
+  pub show : AsksFor view (codes "show") given → ShowEnds view (given_by given) status (unread before) (unread after)
   pub audit : AsksFor view (codes "audit") given
       → AfterNote (Ends (Answers (SaysAudit (viewed (view_named given) view))) status) (unread before) (unread after)
   pub migrate : AsksFor view (codes "migrate") given → Ends (Answers (SaysLine migrated_line)) status (unread before) (unread after)
   pub page : AsksFor view (codes "page") given → AfterNote (Ends (Answers SaysPage) status) (unread before) (unread after)
   pub serve : AsksFor view (codes "serve") given
-      → AfterNote (EndsServe (settings_of (settings_named given)) status) (unread before) (unread after)
+      → AfterNote (EndsServe (draws_seed (given_by given)) (settings_named given) status) (unread before) (unread after)
   pub session : AsksFor view (codes "session") given → AfterNote (SessionEnds (given_by given) status) before after
   pub replay : AsksFor view (codes "replay") given
       → EndsBy (given_by given) (λ s. ReplayEnds (given_by given) (settings_of s) status (unread before) (unread after)) status before after
+  pub trace : AsksFor view (codes "trace") given
+      → EndsBy (given_by given) (λ s. TraceEnds (given_by given) (settings_of s) status (unread before) (unread after)) status before after
   pub trial : AsksFor view (codes "try") given
       → AfterNote (EndsSource (reads_input given) (SaysTrial (viewed (view_named given) view)) status) before after
   pub copy : AsksFor view (codes "copy") given
       → AfterNote (Ends (Answers (SaysCopied (has_flag (codes "audit") (given_by given)))) status) (unread before) (unread after)
   pub reseed : AsksFor view (codes "reseed") given → AfterNote (Ends MayReseed status) (unread before) (unread after)
+  pub rank : AsksFor view (codes "rank") given
+      → EndsBy (given_by given) (λ s. RankEnds (given_by given) (viewed (view_named given) view) (settings_of s) status (unread before) (unread after)) status before after
   pub words : AreTaken view given → status ≢ Status.WordFault
   pub wrong : AreWrong view given → (status ≡ Status.WordFault) ⊎ (status ≡ Status.NoMemory)
   pub help : AskForHelp given → EndsHelp status

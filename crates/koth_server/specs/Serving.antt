@@ -1,7 +1,7 @@
 -- What `serve` writes, and how it ends.
-use Rattle.std.specs.Prelude.{◌≡◌, ◌⊎◌, ℕ, List, Option, ◌++◌, Result, codes, decimal}
-use Rattle.{std.specs.Io.KnownBytes.Appends, war_types.specs.declared.settings.{RawSettings.RawSettings, SettingsFault.SettingsFault}}
-use Rattle.{koth_protocol.specs.Written.WritesPart, koth_files.specs.Trouble.IsOfHill}
+use Rattle.std.specs.Prelude.{◌≡◌, ◌⊎◌, ℕ, Bool, true, List, Option, ◌++◌, Result, codes, decimal}
+use Rattle.{std.specs.Io.KnownBytes.Appends, war_types.specs.{Settings.settings_of, declared.settings.{RawSettings.RawSettings, SettingsFault.SettingsFault}}}
+use Rattle.{koth_protocol.specs.Written.WritesPart, koth_files.specs.Trouble.IsOfHill, koth_keeping.specs.Seed.AreMade}
 use Rattle.koth_commands.specs.{Answer.EndsGiven, Told.WritesSome, Trouble.Tells, Streams.Streams}
 use Rattle.koth_commands.specs.declared.{status.Status.Status, trouble.Trouble.Trouble}
 
@@ -31,7 +31,13 @@ abbrev pub EndsService : Status → Streams → Streams → Type 0
 EndsService status before after =
     ((status ≡ Status.Done) × Announces before.output after.output × WritesSome before.errors after.errors) ⊎ TellsServeFault status before after
 
--- how `serve` ends: as a service under the settings that are given for a hill that it creates, with their refusal, or
--- out of memory
-abbrev pub EndsServe : Result RawSettings SettingsFault → Status → Streams → Streams → Type 0
-EndsServe settings status before after = EndsGiven (λ s. EndsService) settings status before after
+-- how `serve` ends under these settings for a hill that it creates: as a service, with their refusal, or out of memory
+abbrev pub EndsMade : Result RawSettings SettingsFault → Status → Streams → Streams → Type 0
+EndsMade settings status before after = EndsGiven (λ s. EndsService) settings status before after
+
+-- How `serve` ends under the settings that are given, with a seed that is drawn in place of theirs or not. If it is to be
+-- drawn, the source of random numbers may fail.
+abbrev pub EndsServe : Bool → RawSettings → Status → Streams → Streams → Type 0
+EndsServe drawn given status before after =
+    ((settings : RawSettings) × AreMade drawn given settings × EndsMade (settings_of settings) status before after)
+    ⊎ ((drawn ≡ true) × TellsServeFault status before after)

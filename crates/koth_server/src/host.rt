@@ -1,13 +1,17 @@
 //! The host of a service: its hill is opened again if its device failed.
 
-ghost use Rattle.std.specs.Prelude.{map};
-ghost use Rattle.{koth_files.specs.Trouble.IsOfHill, koth_server.specs.Pages.IsShown};
+ghost use Rattle.std.specs.Prelude.{map, option_map};
+ghost use Rattle.{koth_files.specs.Trouble.IsOfHill, koth_server.specs.{Pages.IsShown, Sign.sign_given}};
 
 use crate::log::Log;
 use crate::pages::page_shown;
+use crate::sign::{Door, sign_given};
+use crate::titles::Titles;
 use hill_file::{Headers, HillFile, TryLock};
+use hill_store::Reply;
 use koth_commands::trouble::{About, Fault, Trouble};
 use koth_files::{HillStore, reopen_hill};
+use koth_hill::Hill;
 use koth_http::Page;
 use koth_page::Links;
 use koth_service::{Event, Host, LogWrite, ServiceFault};
@@ -36,16 +40,22 @@ impl Model for Lost {
 
 /// The hill in a file, which is opened again if its device failed, and the log of its service.
 #[derive(Drop)]
-pub(crate) struct Hosting<'f, R, A> {
+pub(crate) struct Hosting<'f, R, A: Allocator> {
     pub rt: &'f R,
     pub alloc: A,
     pub path: &'f str,
     pub log: Log<'f, R>,
     pub links: Links,
+    /// The title of the hill's page, if one is given.
+    pub title: Option<&'f str>,
+    /// Where peers submit, if the hill's page says so.
+    pub door: Option<Door<A>>,
     pub names: &'f [&'f str],
     pub steps: u32,
     /// The headers with which the hill was left when its device failed.
     pub left: Cell<Headers>,
+    /// Those on the hill when the log was told of it last.
+    pub titles: Cell<Titles<A>>,
 }
 
 impl<'f, R: Files + Clock, A: Allocator + Copy> Host<HillFile<'f, R>, A> for Hosting<'f, R, A>
@@ -57,7 +67,7 @@ where
     ghost shows = { λ host store. record {
       names = map (λ name. name.now) host.names.now;
       pages = λ page text.
-          IsShown host.links store.hill page text;
+          IsShown (sign_given (option_map (λ text. text.now) host.title) host.door) host.links store.hill page text;
       steps = host.steps;
     } };
 
@@ -67,7 +77,10 @@ where
         self.left.set(left);
         drop(device);
         match reopen_hill(self.rt, self.alloc, self.path, &left) {
-            Ok(store) => Ok(store),
+            Ok(store) => {
+                self.titles.set(Titles::of(self.alloc, store.hill()));
+                Ok(store)
+            }
             Err(trouble) => Err(Lost {
                 fault: trouble.fault,
             }),
@@ -87,7 +100,22 @@ where
         store: &HillStore<'f, R, A>,
         page: Page,
     ) -> Result<Option<Vec<u8, A>>, AllocError> {
-        page_shown(self.alloc, store, page, self.links)
+        let sign = sign_given(self.title, &self.door);
+        page_shown(self.alloc, store, page, &sign, self.links)
+    }
+
+    fn tell_answer<E: LogWrite>(
+        &self,
+        peer: SocketAddr,
+        reply: Reply,
+        hill: &Hill<A>,
+        errors: &mut E,
+    ) {
+        let now = Titles::of(self.alloc, hill);
+        let before = self.titles.replace(Titles::new(self.alloc));
+        self.log
+            .tell_answer(self.alloc, peer, &reply, &before, &now, errors);
+        self.titles.set(now);
     }
 
     fn tell<E: LogWrite>(&self, peer: SocketAddr, event: Event<'_>, errors: &mut E) {

@@ -9,22 +9,24 @@
 //!   a status;
 //! - `settled`: the settings under which a command is carried out;
 //! - `one_session`: one session over standard input and output;
-//! - `serve`: the service of a hill, `ports`: where it listens, and `log`: what it reports;
+//! - `serve`: the service of a hill, `ports`: where it listens, and `log` and `ends`: what it reports;
 //! - `pages`: the pages that browsers ask it for;
+//! - `titles`: those on the hill, as the log names them;
 //! - `host`: what it goes on with when its device failed.
 //!
 //! The clause of `run` gives what is written and how it ends as a function of the arguments and of what was read
-//! (`asm`, `fight`, `create`, `submit`, `try`, `show`, `page`, `audit`, `copy`, `reseed`, `migrate`, `serve`,
-//! `session`). At wrong arguments nothing is read, and nothing is written on the output (`word_fault`). What a service
+//! (`asm`, `fight`, `replay`, `trace`, `create`, `submit`, `try`, `show`, `page`, `audit`, `copy`, `reseed`, `migrate`,
+//! `serve`, `session`). At wrong arguments nothing is read, and nothing is written on the output (`word_fault`). What a service
 //! does is in `koth_service`.
 //!
 //! Settings must be checked before anything is read. `asm`, `check` and the statuses are in `koth_commands`, `fight`
-//! and `replay` in `koth_contests`, hills in files in `koth_files`, what a keeper does with these in `koth_keeping`,
-//! and what authors do in `koth_hills`. A session and its lines are in `koth_session`. This crate passes on what its
+//! in `koth_contests`, `replay` and `trace` in `koth_rounds`, hills in files in `koth_files`, what a keeper does with
+//! these in `koth_keeping`, and what authors do in `koth_hills`. A session and its lines are in `koth_session`. This crate passes on what its
 //! callers need of them.
 #![tactic(auto)]
 
 mod arguments;
+mod ends;
 mod host;
 mod log;
 mod one_session;
@@ -33,6 +35,8 @@ mod ports;
 mod program;
 mod serve;
 mod settled;
+mod sign;
+mod titles;
 mod typed;
 
 pub use arguments::refuse_arguments;

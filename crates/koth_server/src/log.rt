@@ -3,11 +3,13 @@
 
 ghost use Rattle.koth_commands.specs.Told.{WritesSome};
 
+use crate::ends::{end_text, unasked_text};
+use crate::titles::{Titled, Titles};
 use hill_store::Reply;
 use jiff::Timestamp;
 use koth_commands::{name_text, write_whole};
 use koth_keeping::seed_hint;
-use koth_service::{Event, HowEnded, LogWrite, PeerEnd, WhyUnasked};
+use koth_service::{Event, HowEnded, LogWrite, PeerEnd};
 use koth_session::line_of;
 use koth_words::Service;
 use std::alloc::{AllocError, Allocator};
@@ -17,6 +19,9 @@ use std::rt::Clock;
 
 /// Bytes of the first line of a request that a line of the log has at most.
 const SHOWN: usize = 200;
+
+/// What a line says of a seed that was drawn.
+const DRAWN: &str = "the seed of this hill was drawn, and only its file has it\n";
 
 /// The log of a service. A line that can't be written at once is dropped, and the next one that can is preceded by how
 /// many were.
@@ -54,8 +59,31 @@ impl<'r, R: Clock> Log<'r, R> {
         self.put(alloc, self.line(alloc, peer, event), errors);
     }
 
-    /// Reports that the hill of a service was created, and what its seed means if everybody knows that, unless the log
-    /// is quiet.
+    /// Reports what a submission was answered, by the titles of those on the hill before it and of those there now,
+    /// unless the log is quiet.
+    pub(crate) fn tell_answer<A: Allocator + Copy, E: LogWrite>(
+        &self,
+        alloc: A,
+        peer: SocketAddr,
+        reply: &Reply,
+        before: &Titles<A>,
+        now: &Titles<A>,
+        errors: &mut E,
+    )
+        ensures { WritesSome (E.contents errors.old) (E.contents errors.new) }
+    {
+        if self.quiet {
+            return;
+        }
+        self.put(
+            alloc,
+            self.reply_line(alloc, peer, reply, before, now),
+            errors,
+        );
+    }
+
+    /// Reports that the hill of a service was created, and that its seed was drawn, or what it means if everybody knows
+    /// it, unless the log is quiet.
     pub(crate) fn tell_created<A: Allocator + Copy, E: LogWrite>(
         &self,
         alloc: A,
@@ -69,7 +97,12 @@ impl<'r, R: Clock> Log<'r, R> {
             return;
         }
         self.put(alloc, self.created_line(alloc, service), errors);
-        self.tell_hint(alloc, seed, errors);
+        let hint = if service.draw_seed {
+            DRAWN
+        } else {
+            seed_hint(seed)
+        };
+        self.tell_hint(alloc, hint, errors);
     }
 
     /// Reports where browsers see the hill, if they do.
@@ -87,11 +120,11 @@ impl<'r, R: Clock> Log<'r, R> {
         self.put(alloc, self.address_line(alloc, address), errors);
     }
 
-    /// Reports what the seed of a hill means, if everybody knows that.
-    fn tell_hint<A: Allocator + Copy, E: LogWrite>(&self, alloc: A, seed: u32, errors: &mut E)
+    /// Reports what there is to know of the seed of a hill, if there is anything.
+    fn tell_hint<A: Allocator + Copy, E: LogWrite>(&self, alloc: A, hint: &str, errors: &mut E)
         ensures { WritesSome (E.contents errors.old) (E.contents errors.new) }
     {
-        match seed_hint(seed) {
+        match hint {
             "" => {}
             hint => self.put(
                 alloc,
@@ -159,7 +192,6 @@ impl<'r, R: Clock> Log<'r, R> {
     ) -> Result<String<A>, AllocError> {
         let what = match event {
             Event::Connected => "connected",
-            Event::Answered(reply) => return self.reply_line(alloc, peer, &reply),
             Event::Ended(how) => end_text(how),
             Event::Refused => "refused: as many peers of its address are connected as may be",
             Event::Unasked(why) => unasked_text(why),
@@ -172,16 +204,33 @@ impl<'r, R: Clock> Log<'r, R> {
         format!(in alloc; "{} {}: {}\n", self.seconds(), peer, what)
     }
 
-    /// The line of a submission's reply.
-    fn reply_line<A: Allocator>(
+    /// The line of a submission's reply. That of a warrior on the hill names it, and who was pushed off for it.
+    fn reply_line<A: Allocator + Copy>(
         &self,
         alloc: A,
         peer: SocketAddr,
         reply: &Reply,
+        before: &Titles<A>,
+        now: &Titles<A>,
     ) -> Result<String<A>, AllocError> {
         let line = line_of(reply);
-        let text = str::from_utf8(line.as_slice()).unwrap_or("answered\n");
-        format!(in alloc; "{} {}: {}", self.seconds(), peer, text)
+        let text = str::from_utf8(line.as_slice().trim_ascii_end()).unwrap_or("answered");
+        let Some(placed) = placed_in(reply, now) else {
+            return format!(in alloc; "{} {}: {}\n", self.seconds(), peer, text);
+        };
+        let title = placed.title.as_str();
+        match before.missing_in(now) {
+            None => format!(in alloc; "{} {}: {} {}\n", self.seconds(), peer, text, title),
+            Some(pushed) => format!(in alloc;
+                "{} {}: {} {}, pushed {} {}\n",
+                self.seconds(),
+                peer,
+                text,
+                title,
+                pushed.entry,
+                pushed.title.as_str()
+            ),
+        }
     }
 
     /// The line of a browser's request, whose own first line is cut and escaped, and of its answer.
@@ -245,33 +294,15 @@ fn put_line<E: LogWrite>(line: &[u8], errors: &mut E) -> bool
     errors.begin_line() && write_whole(errors, line).is_ok()
 }
 
+/// The warrior that was placed by this reply, as it is on the hill now.
+fn placed_in<'t, A: Allocator + Copy>(reply: &Reply, now: &'t Titles<A>) -> Option<&'t Titled<A>> {
+    match *reply {
+        Reply::Placed { entry, .. } => now.of_entry(entry),
+        _ => None,
+    }
+}
+
 /// Whether it is a device that failed.
 fn is_fault(event: Event<'_>) -> bool {
     matches!(event, Event::Ended(HowEnded::By(PeerEnd::StoreFailed)))
-}
-
-fn end_text(how: HowEnded) -> &'static str {
-    match how {
-        HowEnded::By(PeerEnd::Quit) => "ended by QUIT",
-        HowEnded::By(PeerEnd::EndOfInput) => "ended by the peer",
-        HowEnded::By(PeerEnd::Limit) => "ended: 16 MiB were taken",
-        HowEnded::By(PeerEnd::Unread) => "ended: the peer takes no answer",
-        HowEnded::By(PeerEnd::StepsSpent) => "ended: the source takes too long to assemble",
-        HowEnded::By(PeerEnd::StoreFailed) => "DISK the device failed: the hill was opened again",
-        HowEnded::By(PeerEnd::Memory) => "ended: memory ran out",
-        HowEnded::Silent => "ended: the peer was silent for too long",
-        HowEnded::Browser => "ended: a browser, and not an author",
-        HowEnded::Displaced => "ended: its place was given to another peer",
-        HowEnded::Gone => "ended: the peer is gone",
-    }
-}
-
-fn unasked_text(why: WhyUnasked) -> &'static str {
-    match why {
-        WhyUnasked::Refused => "no page: as many browsers of its address are connected as may be",
-        WhyUnasked::Displaced => "no page: its slot was given to another browser",
-        WhyUnasked::Late => "no page: its request took too long",
-        WhyUnasked::Gone => "no page: the browser is gone",
-        WhyUnasked::Memory => "no page: memory ran out",
-    }
 }

@@ -1,6 +1,6 @@
 //! A run of the program, from its arguments to its status.
 
-ghost use Rattle.std.specs.Prelude.{◌≡◌, None, map, string_bytes};
+ghost use Rattle.std.specs.Prelude.{◌≡◌, ◌≢◌, None, map, string_bytes};
 ghost use Rattle.{koth_commands.specs.Streams.streams, koth_server.specs.Run.{viewed, EndsRequest, EndsRequestUnder, EndsRun, EndsWithout, Leaves}};
 
 use crate::one_session::session;
@@ -12,11 +12,14 @@ use koth_commands::check::check;
 use koth_commands::trouble::Trouble;
 use koth_commands::{Answer, Status, deliver, lines_text, write_whole};
 use koth_contests::fight::fight;
-use koth_contests::replay::replay;
 use koth_hills::{perform_page, perform_show, perform_submit, perform_try, tell_lost_header};
 use koth_keeping::{perform_audit, perform_copy, perform_create, perform_migrate, perform_reseed};
+use koth_rank::rank;
+use koth_remote::{perform_show_to, perform_submit_to};
+use koth_rounds::replay::replay;
+use koth_rounds::trace::trace;
 use koth_service::LogWrite;
-use koth_words::{NoRequest, Request, View, parse};
+use koth_words::{NoRequest, Request, Sent, View, parse};
 use std::alloc::{AllocError, Allocator, Global};
 use std::io::{Read, Write};
 use std::net::Net;
@@ -146,8 +149,15 @@ where
             let view = viewed(fighters.view, view);
             return fight(rt, alloc, settings, fighters, view, input, output, errors);
         }
+        Request::Rank(_, ref ranking) => {
+            let view = viewed(ranking.view, view);
+            return rank(rt, alloc, settings, ranking, view, input, output, errors);
+        }
         Request::Replay(_, watched) => {
             return replay(rt, alloc, settings, watched, input, output, errors);
+        }
+        Request::Trace(_, traced) => {
+            return trace(rt, alloc, settings, traced, input, output, errors);
         }
         Request::Serve(given, ref service) => {
             tell_lost_header(rt, alloc, service.hill, errors);
@@ -164,6 +174,11 @@ where
             let view = viewed(files.view, view);
             perform_submit(rt, alloc, files.hill, files.wait, files.source, view, input)
         }
+        Request::SubmitTo(_, sent) => {
+            let view = viewed(sent.view, view);
+            return submit_elsewhere(rt, alloc, settings, sent, view, input, output, errors);
+        }
+        Request::ShowTo(shown) => perform_show_to(rt, alloc, shown, viewed(shown.view, view)),
         Request::Try(files) => {
             tell_lost_header(rt, alloc, files.hill, errors);
             let view = viewed(files.view, view);
@@ -191,6 +206,23 @@ where
         }
     };
     deliver(alloc, done, lasts(request), output, errors)
+}
+
+/// Submits a source to a hill elsewhere, and writes what came of it, also if no one reads that.
+fn submit_elsewhere<R: Files + Net, A: Allocator + Copy, I: Read, O: Write, E: Write>(
+    rt: &R,
+    alloc: A,
+    settings: RawSettings,
+    sent: Sent<'_>,
+    view: View,
+    input: &mut I,
+    output: &mut O,
+    errors: &mut E,
+) -> Status
+    ensures { result ≢ Status.WordFault }
+{
+    let done = perform_submit_to(rt, alloc, settings, sent, view, input, output);
+    deliver(alloc, done, true, output, errors)
 }
 
 /// Whether what a request's command does stays, so that it is reported also if no one reads the answer.

@@ -2,16 +2,19 @@
 
 ghost use Rattle.std.specs.Prelude.{◌≡◌, ◌≢◌, None, false, IfErr, IfOk, MatchResult};
 ghost use Rattle.{war_types.specs.Settings.settings_of, koth_commands.specs.{Streams.streams, Told.WritesSome}, koth_files.specs.Trouble.IsOfHill};
-ghost use Rattle.koth_server.specs.Serving.{Announces, AnnouncesPart, EndsServe, EndsService};
+ghost use Rattle.koth_server.specs.Serving.{Announces, AnnouncesPart, EndsMade, EndsServe, EndsService};
 
 use crate::host::{Hosting, trouble_of};
 use crate::log::Log;
 use crate::pages::links_for;
 use crate::ports::{BROWSERS, announced};
+use crate::sign::door_if_known;
+use crate::titles::Titles;
 use hill_file::{Existing, Headers, TryLock};
 use koth_commands::trouble::{Fault, Trouble};
 use koth_commands::{Status, refuse_settings};
 use koth_files::{HillStore, create_hill, open_alone};
+use koth_keeping::made_settings;
 use koth_service::{LogWrite, serve_peers};
 use koth_sockets::PolledSockets;
 use koth_words::Service;
@@ -19,6 +22,7 @@ use std::alloc::Allocator;
 use std::cell::Cell;
 use std::io::Write;
 use std::net::Net;
+use std::random::RandomSource;
 use std::rt::{Clock, Files};
 use war_types::{RawSettings, Settings};
 
@@ -28,9 +32,15 @@ use war_types::{RawSettings, Settings};
 /// port if the system chooses it. What happens is written on standard error, unless the service is quiet, and so is
 /// where browsers see the hill, if they may.
 ///
-/// If that is asked for and there is no file, the hill is created first, with these settings. Settings that are out of
-/// their ranges are refused before the file is touched.
-pub(crate) fn serve<'f, R: Files + Net + Clock, A: Allocator + Copy, O: Write, E: LogWrite>(
+/// If that is asked for and there is no file, the hill is created first, with these settings, but with a seed that is
+/// drawn unless one is given. Settings that are out of their ranges are refused before the file is touched.
+pub(crate) fn serve<
+    'f,
+    R: Files + Net + Clock + RandomSource,
+    A: Allocator + Copy,
+    O: Write,
+    E: LogWrite,
+>(
     rt: &'f R,
     alloc: A,
     given: RawSettings,
@@ -40,7 +50,29 @@ pub(crate) fn serve<'f, R: Files + Net + Clock, A: Allocator + Copy, O: Write, E
 ) -> Status
 where
     R::File: TryLock,
-    ensures ends { EndsServe (settings_of given) result
+    ensures ends { EndsServe service.now.draw_seed given result
+        (streams None (O.contents output.old) (E.contents errors.old))
+        (streams None (O.contents output.new) (E.contents errors.new)) }
+    ensures words { result ≢ Status.WordFault }
+{
+    match made_settings(rt, given, service.draw_seed) {
+        Ok(made) => serve_made(rt, alloc, made, service, output, errors),
+        Err(trouble) => trouble.tell(alloc, errors),
+    }
+}
+
+/// The same with these settings of a hill that is created.
+fn serve_made<'f, R: Files + Net + Clock, A: Allocator + Copy, O: Write, E: LogWrite>(
+    rt: &'f R,
+    alloc: A,
+    given: RawSettings,
+    service: &'f Service<'f>,
+    output: &mut O,
+    errors: &mut E,
+) -> Status
+where
+    R::File: TryLock,
+    ensures ends { EndsMade (settings_of given) result
         (streams None (O.contents output.old) (E.contents errors.old))
         (streams None (O.contents output.new) (E.contents errors.new)) }
     ensures words { result ≢ Status.WordFault }
@@ -66,20 +98,24 @@ where
         (streams None (O.contents output.new) (E.contents errors.new)) }
     ensures words { result ≢ Status.WordFault }
 {
-    let host = Hosting {
+    let mut host = Hosting {
         rt,
         alloc,
         path: service.hill,
         log: Log::new(rt, service.quiet),
         links: links_for(service.replays),
+        title: service.title,
+        door: None,
         names: service.hosts.as_slice(),
         steps: service.steps,
         left: Cell::new(Headers::ZEROS),
+        titles: Cell::new(Titles::new(alloc)),
     };
     let (store, mut sockets) = match begin(&host, settings, service, output, errors) {
         Ok(begun) => begun,
         Err(trouble) => return trouble.tell(alloc, errors),
     };
+    host.door = door_if_known(alloc, service, sockets.local_addr());
     host.log.tell_pages(alloc, sockets.pages_addr(), errors);
     let limits = koth_service::Limits {
         peers: service.peers as usize,
@@ -113,6 +149,7 @@ where
         Ok(store) => store,
         Err(trouble) => return Err(trouble),
     };
+    host.titles.set(Titles::of(host.alloc, store.hill()));
     match announced(host.rt, host.alloc, service, output) {
         Ok(sockets) => Ok((store, sockets)),
         Err(trouble) => Err(trouble),
@@ -120,7 +157,7 @@ where
 }
 
 /// The hill in the file. If that is asked for and the file holds nothing, the hill is created there, and that is
-/// reported, with what the default seed means.
+/// reported, with what its seed is.
 fn hill_served<'f, R: Files + Clock, A: Allocator + Copy, E: LogWrite>(
     host: &Hosting<'f, R, A>,
     settings: Settings,

@@ -4,7 +4,8 @@ use Rattle.std.specs.Prelude.{IsSome, Result, Ok, Err}
 use Rattle.std.specs.{Prelude.{Vec, slice_index_or}, declared.alloc.AllocError.AllocError}
 use Rattle.{sector_disk.specs.Facts.DeviceFacts, hill_store.specs.Seen.Seen}
 use Rattle.koth_session.specs.{Judge.fighting, Peers.may_serve_at}
-use Rattle.koth_http.specs.{Asked.IsAsked, Response.{page_response, refusal_response}, declared.refusal.Refusal.Refusal}
+use Rattle.koth_http.specs.{Asked.IsAsked, Response.{IsPageResponse, missing, refusal_response}}
+use Rattle.koth_http.specs.{declared.refusal.Refusal.Refusal, declared.target.Page.Page}
 use Rattle.koth_seats.specs.{Seats.{longer, IsUnused, has_some}, declared.times.TheConstants.{UNASKED, UNHEARD}}
 use Rattle.koth_service.specs.{Noted.{Adds, Noted, Stays}, Answering.{AnswersBytes, Site}, Moment.{Start, instead, moment}}
 use Rattle.koth_service.specs.Places.{IsLongest}
@@ -89,10 +90,10 @@ ClosesUnless happened n None old new = Adds happened (Noted.Left n) old new
 ClosesUnless happened n (Some connection) old new = Stays happened old new
 
 -- the answer to what was found of a page, or to there being no memory for it
-abbrev pub found_response : {A : Type 0} → Result (Option (Vec ℕ A)) AllocError → Bool → List ℕ
-found_response (Ok (Some text)) with_body = page_response text.items with_body
-found_response (Ok None) with_body = refusal_response Refusal.NotFound with_body
-found_response (Err memory) with_body = refusal_response Refusal.Unavailable with_body
+abbrev pub IsFoundResponse : {A : Type 0} → List ℕ → Page → Result (Option (Vec ℕ A)) AllocError → Bool → List ℕ → Type 0
+IsFoundResponse bytes page (Ok (Some text)) with_body answer = IsPageResponse bytes page text.items with_body answer
+IsFoundResponse bytes page (Ok None) with_body answer = answer ≡ refusal_response (missing page) with_body
+IsFoundResponse bytes page (Err memory) with_body answer = answer ≡ refusal_response Refusal.Unavailable with_body
 
 -- the bytes that came are answered by what they ask, once that is known
 abbrev pub AnswersOnceKnown : {A : Type 0} → Site → List ℕ → Option (Vec ℕ A) → Type 0

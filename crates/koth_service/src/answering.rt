@@ -1,11 +1,11 @@
 //! What a browser is answered.
 
 ghost use Rattle.std.specs.Prelude.{◌≡◌, IfOk};
-ghost use Rattle.koth_service.specs.{Answering.IsAnswer, Connections.{AnswersOnceKnown, found_response}};
+ghost use Rattle.koth_service.specs.{Answering.IsAnswer, Connections.{AnswersOnceKnown, IsFoundResponse}};
 
 use crate::host::Host;
 use hill_store::Store;
-use koth_http::{Asked, Refusal, Visit, page_response, refusal_response};
+use koth_http::{Asked, Page, Refusal, Visit, missing, page_response, refusal_response};
 use sector_disk::Device;
 use std::alloc::{AllocError, Allocator};
 
@@ -20,7 +20,7 @@ pub(crate) fn answer_visit<D: Device, A: Allocator + Copy, H: Host<D, A>>(
     ensures { IfOk result (AnswersOnceKnown (H.shows host.now store.now) visit.now) }
 {
     match visit.asked(host.names()) {
-        Some(asked) => Ok(Some(answer(alloc, store, host, asked)?)),
+        Some(asked) => Ok(Some(answer(alloc, store, host, visit, asked)?)),
         None => Ok(None),
     }
 }
@@ -32,12 +32,13 @@ fn answer<D: Device, A: Allocator + Copy, H: Host<D, A>>(
     alloc: A,
     store: &Store<D, A>,
     host: &H,
+    visit: &Visit<A>,
     asked: Asked,
 ) -> Result<Vec<u8, A>, AllocError>
-    ensures { IfOk result (λ answer. IsAnswer (H.shows host.now store.now) asked answer.items) }
+    ensures { IfOk result (λ answer. IsAnswer (H.shows host.now store.now) visit.now asked answer.items) }
 {
     match asked.page {
-        Ok(page) => found_response(alloc, host.page(store, page), asked.with_body),
+        Ok(page) => found_response(alloc, visit, page, host.page(store, page), asked.with_body),
         Err(refusal) => refusal_response(alloc, refusal, asked.with_body),
     }
 }
@@ -45,14 +46,16 @@ fn answer<D: Device, A: Allocator + Copy, H: Host<D, A>>(
 /// The answer to what was found of a page, or to there being no memory for it.
 fn found_response<A: Allocator + Copy>(
     alloc: A,
+    visit: &Visit<A>,
+    page: Page,
     found: Result<Option<Vec<u8, A>>, AllocError>,
     with_body: bool,
 ) -> Result<Vec<u8, A>, AllocError>
-    ensures { IfOk result (λ answer. answer.items ≡ found_response found with_body) }
+    ensures { IfOk result (λ answer. IsFoundResponse visit.now page found with_body answer.items) }
 {
     match found {
-        Ok(Some(text)) => page_response(alloc, text.as_slice(), with_body),
-        Ok(None) => refusal_response(alloc, Refusal::NotFound, with_body),
+        Ok(Some(text)) => page_response(alloc, visit, page, text.as_slice(), with_body),
+        Ok(None) => refusal_response(alloc, missing(page), with_body),
         Err(AllocError) => refusal_response(alloc, Refusal::Unavailable, with_body),
     }
 }

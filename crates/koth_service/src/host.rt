@@ -5,6 +5,7 @@ ghost use Rattle.{hill_store.specs.Seen.Seen, koth_service.specs.{Answering.{IsF
 
 use crate::log::LogWrite;
 use hill_store::{Reply, Store};
+use koth_hill::Hill;
 use koth_http::Page;
 use koth_session::PeerEnd;
 use sector_disk::Device;
@@ -48,8 +49,6 @@ pub enum WhyUnasked {
 pub enum Event<'t> {
     /// It has connected.
     Connected,
-    /// A submission of it was answered so.
-    Answered(Reply),
     /// Its session has ended, and its socket is closed.
     Ended(HowEnded),
     /// It was not served, since as many peers of its address are there as may be.
@@ -93,7 +92,17 @@ pub trait Host<D: Device, A: Allocator> {
     fn page(&self, store: &Store<D, A>, page: Page) -> Result<Option<Vec<u8, A>>, AllocError>
         ensures { IfOk result (IsFound ((Self.shows self.now store.now).pages page)) };
 
-    /// Reports what happened with the peer or the browser of this address, as far as it is to be reported.
+    /// Reports what a submission of the peer of this address was answered, on the hill as it is then.
+    fn tell_answer<E: LogWrite>(
+        &self,
+        peer: SocketAddr,
+        reply: Reply,
+        hill: &Hill<A>,
+        errors: &mut E,
+    )
+        ensures { Grows (E.contents errors.old) (E.contents errors.new) };
+
+    /// Reports what else happened with the peer or the browser of this address, as far as it is to be reported.
     fn tell<E: LogWrite>(&self, peer: SocketAddr, event: Event<'_>, errors: &mut E)
         ensures { Grows (E.contents errors.old) (E.contents errors.new) };
 }

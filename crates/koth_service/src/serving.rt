@@ -4,7 +4,7 @@
 ghost use Rattle.koth_service.specs.{Standing.KeepsOnBy, Told.Grows};
 
 use crate::desk::{Desk, let_go};
-use crate::host::{Event, Host, HowEnded};
+use crate::host::{Host, HowEnded};
 use crate::log::LogWrite;
 use crate::sockets::Sockets;
 use koth_session::Step;
@@ -56,6 +56,7 @@ fn tell_reply<D: Device, A: Allocator + Copy, H: Host<D, A>, E: LogWrite>(
     ensures { Grows (E.contents errors.old) (E.contents errors.new) }
 {
     if let (Some(reply), Some(seat)) = (desk.peers.reply(number), desk.seats.at(number)) {
-        host.tell(seat.address, Event::Answered(reply), errors);
+        let hill = desk.judge.store().hill();
+        host.tell_answer(seat.address, reply, hill, errors);
     }
 }

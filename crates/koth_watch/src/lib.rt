@@ -30,4 +30,4 @@ mod shown;
 
 pub use page::round_page;
 pub use sentence::{Told, put_sentence};
-pub use shown::Form;
+pub use shown::{Form, put_shown};

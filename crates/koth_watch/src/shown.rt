@@ -70,9 +70,9 @@ fn link_line(turn: u32) -> Line
     line
 }
 
-/// Puts an instruction of a core of this size.
+/// Puts an instruction of a core of this size. The error is lack of memory.
 #[tactic(auto, unfolding(crate::specs::Shown::instruction_shown))]
-pub(crate) fn put_shown<A: Allocator>(
+pub fn put_shown<A: Allocator>(
     text: &mut Vec<u8, A>,
     form: Form,
     core: u16,

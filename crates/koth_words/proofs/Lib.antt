@@ -6,3 +6,4 @@ mod Named
 mod Numbers
 mod Rows
 mod Texts
+mod Tests

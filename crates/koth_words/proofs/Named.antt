@@ -1,6 +1,6 @@
 -- What a parse of the program's words met.
 use Rattle.std.proofs.Common.{◌≡◌, ◌≢◌, ◌⊎◌, inl, inr, subst, ◌∙◌, ◌||◌, Bool, true, false, List, Option, None, Some, Box, is_some, IfSome, if◌then◌else◌, sym, ap, refl, codes, [], ◌∷◌, option_map}
-use Rattle.{std.specs.{Box.box_value, List.find}, clap.specs.Faults.{entered_fault, fault_of, is_simple_and_free, other_fault}}
+use Rattle.{std.specs.{Box.box_value, List.find, Str.bytes_eq}, clap.specs.Faults.{entered_fault, fault_of, is_simple_and_free, other_fault}}
 use Rattle.clap.specs.{Simple.{App, HasMatchesOf, argument_words, built, entered, is_simple, label_of, names_of, rows_at, subcommand_of, subcommand_rows, subcommand_rows_of}, Takes.takes}
 use Rattle.clap.specs.{Kinds.{HasKind, IsAmong, Kinds}, Matches.subcommand_name_of, Values.kind_of, Walk.{Held, Row, Text, answers_to, idle, nothing_held, option, positional, stop_after, walk_from}}
 use Rattle.clap.specs.{declared.error.Error.Error, declared.error.kind.ErrorKind.ErrorKind, declared.parser.matches.ArgMatches.ArgMatches}
@@ -27,42 +27,60 @@ named app m words is has = ap (option_map (λ p. p.0)) (sym (found app m words i
 
 -- ---- words without fault name a command
 
-abbrev met_by : Bool → Bool → Bool → Bool → Bool → Bool → Bool → Bool → Bool → Bool → Bool → Bool → Bool → Bool → Bool → Bool → Option Text
-met_by asm check fight create submit show serve session audit migrate page replay try copy reseed help = option_map (λ (s : Text × List Text). s.0) (
-    if asm || false then Some (codes "asm", []) else if check || false then Some (codes "check", [])
-    else if fight || false then Some (codes "fight", []) else if create || false then Some (codes "create", [])
-    else if submit || false then Some (codes "submit", []) else if show || false then Some (codes "show", [])
-    else if serve || false then Some (codes "serve", []) else if session || false then Some (codes "session", [])
-    else if audit || false then Some (codes "audit", []) else if migrate || false then Some (codes "migrate", [])
-    else if page || false then Some (codes "page", []) else if replay || false then Some (codes "replay", [])
-    else if try || false then Some (codes "try", []) else if copy || false then Some (codes "copy", [])
-    else if reseed || false then Some (codes "reseed", []) else if help || false then Some (codes "help", []) else None)
+abbrev met_by : Bool → Bool → Bool → Bool → Bool → Bool → Bool → Bool → Bool → Bool → Bool → Bool → Bool → Bool → Bool → Bool → Bool → Bool → Option Text
+met_by asm check fight create submit show serve session audit migrate page replay trace try copy reseed rank help = option_map (λ (s : Text × List Text). s.0) (
+    if asm || false then Some (codes "asm", [])
+    else if check || false then Some (codes "check", [])
+    else if fight || false then Some (codes "fight", [])
+    else if create || false then Some (codes "create", [])
+    else if submit || false then Some (codes "submit", [])
+    else if show || false then Some (codes "show", [])
+    else if serve || false then Some (codes "serve", [])
+    else if session || false then Some (codes "session", [])
+    else if audit || false then Some (codes "audit", [])
+    else if migrate || false then Some (codes "migrate", [])
+    else if page || false then Some (codes "page", [])
+    else if replay || false then Some (codes "replay", [])
+    else if trace || false then Some (codes "trace", [])
+    else if try || false then Some (codes "try", [])
+    else if copy || false then Some (codes "copy", [])
+    else if reseed || false then Some (codes "reseed", [])
+    else if rank || false then Some (codes "rank", [])
+    else if help || false then Some (codes "help", []) else None)
 
-met_is_command : (asm check fight create submit show serve session audit migrate page replay try copy reseed help : Bool) (word : Text) (h : Held)
-    → other_fault (built koth_app).top (met_by asm check fight create submit show serve session audit migrate page replay try copy reseed help) word h ≡ []
-    → IfSome (met_by asm check fight create submit show serve session audit migrate page replay try copy reseed help) IsCommandName
+met_is_command : (asm check fight create submit show serve session audit migrate page replay trace try copy reseed rank help : Bool) (word : Text) (h : Held)
+    → other_fault (built koth_app).top (met_by asm check fight create submit show serve session audit migrate page replay trace try copy reseed rank help) word h ≡ []
+    → IfSome (met_by asm check fight create submit show serve session audit migrate page replay trace try copy reseed rank help) IsCommandName
 unfolding clap_on_literals koth_app
-met_is_command true check fight create submit show serve session audit migrate page replay try copy reseed help word h none = inl refl
-met_is_command false true fight create submit show serve session audit migrate page replay try copy reseed help word h none = inr (inl refl)
-met_is_command false false true create submit show serve session audit migrate page replay try copy reseed help word h none = inr (inr (inl refl))
-met_is_command false false false true submit show serve session audit migrate page replay try copy reseed help word h none = inr (inr (inr (inl refl)))
-met_is_command false false false false true show serve session audit migrate page replay try copy reseed help word h none = inr (inr (inr (inr (inl refl))))
-met_is_command false false false false false true serve session audit migrate page replay try copy reseed help word h none = inr (inr (inr (inr (inr (inl refl)))))
-met_is_command false false false false false false true session audit migrate page replay try copy reseed help word h none = inr (inr (inr (inr (inr (inr (inl refl))))))
-met_is_command false false false false false false false true audit migrate page replay try copy reseed help word h none = inr (inr (inr (inr (inr (inr (inr (inl refl)))))))
-met_is_command false false false false false false false false true migrate page replay try copy reseed help word h none = inr (inr (inr (inr (inr (inr (inr (inr (inl refl))))))))
-met_is_command false false false false false false false false false true page replay try copy reseed help word h none = inr (inr (inr (inr (inr (inr (inr (inr (inr (inl refl)))))))))
-met_is_command false false false false false false false false false false true replay try copy reseed help word h none = inr (inr (inr (inr (inr (inr (inr (inr (inr (inr (inl refl))))))))))
-met_is_command false false false false false false false false false false false true try copy reseed help word h none = inr (inr (inr (inr (inr (inr (inr (inr (inr (inr (inr (inl refl)))))))))))
-met_is_command false false false false false false false false false false false false true copy reseed help word h none = inr (inr (inr (inr (inr (inr (inr (inr (inr (inr (inr (inr (inl refl))))))))))))
-met_is_command false false false false false false false false false false false false false true reseed help word h none = inr (inr (inr (inr (inr (inr (inr (inr (inr (inr (inr (inr (inr (inl refl)))))))))))))
-met_is_command false false false false false false false false false false false false false false true help word h none = inr (inr (inr (inr (inr (inr (inr (inr (inr (inr (inr (inr (inr (inr refl)))))))))))))
-met_is_command false false false false false false false false false false false false false false false true word h none = absurd (cc)
-met_is_command false false false false false false false false false false false false false false false false word h none = tt
+met_is_command true check fight create submit show serve session audit migrate page replay trace try copy reseed rank help word h none = inl refl
+met_is_command false true fight create submit show serve session audit migrate page replay trace try copy reseed rank help word h none = inr (inl refl)
+met_is_command false false true create submit show serve session audit migrate page replay trace try copy reseed rank help word h none = inr (inr (inl refl))
+met_is_command false false false true submit show serve session audit migrate page replay trace try copy reseed rank help word h none = inr (inr (inr (inl refl)))
+met_is_command false false false false true show serve session audit migrate page replay trace try copy reseed rank help word h none = inr (inr (inr (inr (inl refl))))
+met_is_command false false false false false true serve session audit migrate page replay trace try copy reseed rank help word h none = inr (inr (inr (inr (inr (inl refl)))))
+met_is_command false false false false false false true session audit migrate page replay trace try copy reseed rank help word h none = inr (inr (inr (inr (inr (inr (inl refl))))))
+met_is_command false false false false false false false true audit migrate page replay trace try copy reseed rank help word h none = inr (inr (inr (inr (inr (inr (inr (inl refl)))))))
+met_is_command false false false false false false false false true migrate page replay trace try copy reseed rank help word h none = inr (inr (inr (inr (inr (inr (inr (inr (inl refl))))))))
+met_is_command false false false false false false false false false true page replay trace try copy reseed rank help word h none = inr (inr (inr (inr (inr (inr (inr (inr (inr (inl refl)))))))))
+met_is_command false false false false false false false false false false true replay trace try copy reseed rank help word h none = inr (inr (inr (inr (inr (inr (inr (inr (inr (inr (inl refl))))))))))
+met_is_command false false false false false false false false false false false true trace try copy reseed rank help word h none = inr (inr (inr (inr (inr (inr (inr (inr (inr (inr (inr (inl refl)))))))))))
+met_is_command false false false false false false false false false false false false true try copy reseed rank help word h none = inr (inr (inr (inr (inr (inr (inr (inr (inr (inr (inr (inr (inl refl))))))))))))
+met_is_command false false false false false false false false false false false false false true copy reseed rank help word h none = inr (inr (inr (inr (inr (inr (inr (inr (inr (inr (inr (inr (inr (inl refl)))))))))))))
+met_is_command false false false false false false false false false false false false false false true reseed rank help word h none = inr (inr (inr (inr (inr (inr (inr (inr (inr (inr (inr (inr (inr (inr (inl refl))))))))))))))
+met_is_command false false false false false false false false false false false false false false false true rank help word h none = inr (inr (inr (inr (inr (inr (inr (inr (inr (inr (inr (inr (inr (inr (inr (inl refl)))))))))))))))
+met_is_command false false false false false false false false false false false false false false false false true help word h none = inr (inr (inr (inr (inr (inr (inr (inr (inr (inr (inr (inr (inr (inr (inr (inr refl)))))))))))))))
+met_is_command false false false false false false false false false false false false false false false false false true word h none = absurd (cc)
+met_is_command false false false false false false false false false false false false false false false false false false word h none = tt
 
 each_is_command : OnNames (built koth_app).top (names_of (built koth_app)) IsCommandName
 unfolding clap_on_literals koth_app
-each_is_command idle word h none = met_is_command _ _ _ _ _ _ _ _ _ _ _ _ _ _ _ _ word h none
+each_is_command idle word h none = met_is_command
+    (bytes_eq (codes "asm") word) (bytes_eq (codes "check") word) (bytes_eq (codes "fight") word)
+    (bytes_eq (codes "create") word) (bytes_eq (codes "submit") word) (bytes_eq (codes "show") word)
+    (bytes_eq (codes "serve") word) (bytes_eq (codes "session") word) (bytes_eq (codes "audit") word)
+    (bytes_eq (codes "migrate") word) (bytes_eq (codes "page") word) (bytes_eq (codes "replay") word)
+    (bytes_eq (codes "trace") word) (bytes_eq (codes "try") word) (bytes_eq (codes "copy") word)
+    (bytes_eq (codes "reseed") word) (bytes_eq (codes "rank") word) (bytes_eq (codes "help") word) word h none
 each_is_command (option id) word h none = tt
 each_is_command positional word h none = tt
 
@@ -94,9 +112,11 @@ enters_command (Some p) (inr (inr (inr (inr (inr (inr (inr (inr (inl is)))))))))
 enters_command (Some p) (inr (inr (inr (inr (inr (inr (inr (inr (inr (inl is)))))))))) has = named_at p (codes "migrate") is (inr (inr (inr (inr (inr (inr (inr (inr (inr (inl refl))))))))))
 enters_command (Some p) (inr (inr (inr (inr (inr (inr (inr (inr (inr (inr (inl is))))))))))) has = named_at p (codes "page") is (inr (inr (inr (inr (inr (inr (inr (inr (inr (inr (inl refl)))))))))))
 enters_command (Some p) (inr (inr (inr (inr (inr (inr (inr (inr (inr (inr (inr (inl is)))))))))))) has = named_at p (codes "replay") is (inr (inr (inr (inr (inr (inr (inr (inr (inr (inr (inr (inl refl))))))))))))
-enters_command (Some p) (inr (inr (inr (inr (inr (inr (inr (inr (inr (inr (inr (inr (inl is))))))))))))) has = named_at p (codes "try") is (inr (inr (inr (inr (inr (inr (inr (inr (inr (inr (inr (inr (inl refl)))))))))))))
-enters_command (Some p) (inr (inr (inr (inr (inr (inr (inr (inr (inr (inr (inr (inr (inr (inl is)))))))))))))) has = named_at p (codes "copy") is (inr (inr (inr (inr (inr (inr (inr (inr (inr (inr (inr (inr (inr (inl refl))))))))))))))
-enters_command (Some p) (inr (inr (inr (inr (inr (inr (inr (inr (inr (inr (inr (inr (inr (inr is)))))))))))))) has = named_at p (codes "reseed") is (inr (inr (inr (inr (inr (inr (inr (inr (inr (inr (inr (inr (inr (inr refl))))))))))))))
+enters_command (Some p) (inr (inr (inr (inr (inr (inr (inr (inr (inr (inr (inr (inr (inl is))))))))))))) has = named_at p (codes "trace") is (inr (inr (inr (inr (inr (inr (inr (inr (inr (inr (inr (inr (inl refl)))))))))))))
+enters_command (Some p) (inr (inr (inr (inr (inr (inr (inr (inr (inr (inr (inr (inr (inr (inl is)))))))))))))) has = named_at p (codes "try") is (inr (inr (inr (inr (inr (inr (inr (inr (inr (inr (inr (inr (inr (inl refl))))))))))))))
+enters_command (Some p) (inr (inr (inr (inr (inr (inr (inr (inr (inr (inr (inr (inr (inr (inr (inl is))))))))))))))) has = named_at p (codes "copy") is (inr (inr (inr (inr (inr (inr (inr (inr (inr (inr (inr (inr (inr (inr (inl refl)))))))))))))))
+enters_command (Some p) (inr (inr (inr (inr (inr (inr (inr (inr (inr (inr (inr (inr (inr (inr (inr (inl is)))))))))))))))) has = named_at p (codes "reseed") is (inr (inr (inr (inr (inr (inr (inr (inr (inr (inr (inr (inr (inr (inr (inr (inl refl))))))))))))))))
+enters_command (Some p) (inr (inr (inr (inr (inr (inr (inr (inr (inr (inr (inr (inr (inr (inr (inr (inr is)))))))))))))))) has = named_at p (codes "rank") is (inr (inr (inr (inr (inr (inr (inr (inr (inr (inr (inr (inr (inr (inr (inr (inr refl))))))))))))))))
 
 -- words in which clap finds no fault name a command
 names_command : (words : List Text) → fault_of koth_app words ≡ [] → NamesCommand (option_map (λ p. p.0) (subcommand_of koth_app words))

@@ -3,8 +3,8 @@ use Rattle.{std.proofs.Common.{◌≡◌, true, false, true≢false, List, [], �
 use Rattle.{clap.proofs.OnLiterals.clap_on_literals, clap.specs.declared.error.kind.ErrorKind.ErrorKind, war_types.specs.Settings.settings_of}
 use Rattle.koth_words.specs.{Options.{default_settings, number_given, number_or}, Settings.{chosen_in, given_as, over, preset_settings}}
 use Rattle.koth_words.specs.{declared.serving.TheConstants.STEPS, Words.{AreTaken, AreWrong, AskForHelp, AsksFor, IsAddress}}
-use Rattle.koth_words.specs.Words.{create_named, draw_seed_named, form_named, given_by, given_in, koth_app, matches_named, overwrite_named, reads_input, replays_named, round_in, settings_named}
-use Rattle.{koth_words.specs.{Words.view_named, Sources.{Place, place_named, places_named}, declared.requests.{Form.Form, Round.Round, View.View}}, koth_words.proofs.Addresses.{any_address, every_address, every_address_is_one, every_long_address, every_long_address_is_one, four, not_here, not_to_a_group, not_to_a_mapped_group, not_to_all, not_with_port, this_machine}}
+use Rattle.koth_words.specs.Words.{create_named, draw_seed_named, draws_seed, form_named, given_by, given_in, is_remote, koth_app, matches_named, overwrite_named, reads_input, replays_named, round_in, settings_named}
+use Rattle.{koth_words.specs.{Words.view_named, Place.names_port, Sources.{Place, place_named, places_named}, declared.requests.{Form.Form, Round.Round, View.View}}, koth_words.proofs.Addresses.{any_address, every_address, every_address_is_one, every_long_address, every_long_address_is_one, four, not_here, not_to_a_group, not_to_a_mapped_group, not_to_all, not_with_port, this_machine}}
 
 -- the premise of `asm` is met by these words
 asm_asks : AsksFor View.Plain (codes "asm") (codes "koth" ∷ codes "asm" ∷ [])
@@ -51,14 +51,13 @@ flags_not_taken : (takes koth_app (codes "koth" ∷ codes "show" ∷ codes "h.hi
 unfolding clap_on_literals koth_app
 flags_not_taken = (refl, refl, refl, refl)
 
--- a source, a port or a new file too few, a file too many, and a port past 16 bits are not taken
-hills_not_taken : (takes koth_app (codes "koth" ∷ codes "submit" ∷ codes "a.hill" ∷ []) ≡ false)
-    × (takes koth_app (codes "koth" ∷ codes "serve" ∷ codes "a.hill" ∷ codes "--connections=1" ∷ []) ≡ false)
+-- a port or a new file too few, a file too many, and a port past 16 bits are not taken
+hills_not_taken : (takes koth_app (codes "koth" ∷ codes "serve" ∷ codes "a.hill" ∷ codes "--connections=1" ∷ []) ≡ false)
     × (takes koth_app (codes "koth" ∷ codes "serve" ∷ codes "a.hill" ∷ codes "--port=65536" ∷ codes "--connections=1" ∷ []) ≡ false)
     × (takes koth_app (codes "koth" ∷ codes "migrate" ∷ codes "a.hill" ∷ []) ≡ false)
     × (takes koth_app (codes "koth" ∷ codes "migrate" ∷ codes "a.hill" ∷ codes "b.hill" ∷ codes "c.hill" ∷ []) ≡ false)
 unfolding clap_on_literals koth_app
-hills_not_taken = (refl, refl, refl, refl, refl)
+hills_not_taken = (refl, refl, refl, refl)
 
 -- the settings that words give, by one word or by two, with a plus sign or without
 given_settings : (settings_named (codes "koth" ∷ codes "asm" ∷ []) ≡ default_settings)
@@ -255,9 +254,11 @@ groups_wrong = (inr (refl, λ clear. not_to_all clear.4), inr (refl, λ clear. n
 -- what browsers are shown, and the names that they ask for, need pages
 without_pages : AreWrong View.Plain (codes "koth" ∷ codes "serve" ∷ codes "a.hill" ∷ codes "--port=0" ∷ codes "--replays" ∷ [])
     × AreWrong View.Plain (codes "koth" ∷ codes "serve" ∷ codes "a.hill" ∷ codes "--port=0" ∷ codes "--host=hill.example" ∷ [])
-    × AsksFor View.Plain (codes "serve") (codes "koth" ∷ codes "serve" ∷ codes "a.hill" ∷ codes "--port=0" ∷ codes "--http=0" ∷ codes "--host=hill.example" ∷ codes "--replays" ∷ [])
+    × AreWrong View.Plain (codes "koth" ∷ codes "serve" ∷ codes "a.hill" ∷ codes "--port=0" ∷ codes "--peers-at=hill.example:80" ∷ [])
+    × AsksFor View.Plain (codes "serve") (codes "koth" ∷ codes "serve" ∷ codes "a.hill" ∷ codes "--port=0" ∷ codes "--http=0" ∷ codes "--host=hill.example" ∷ codes "--replays" ∷ codes "--title=A hill" ∷ [])
 unfolding clap_on_literals koth_app
 without_pages = (
+  inr (refl, λ clear. true≢false (sym clear.3)),
   inr (refl, λ clear. true≢false (sym clear.3)),
   inr (refl, λ clear. true≢false (sym clear.3)),
   ((refl, (refl, refl, refl, refl, tt)), refl),
@@ -287,6 +288,19 @@ pages : AsksFor View.Table (codes "replay") (codes "koth" ∷ codes "replay" ∷
     × AsksFor View.Table (codes "fight") (codes "koth" ∷ codes "fight" ∷ codes "a" ∷ codes "b" ∷ [])
 unfolding clap_on_literals koth_app
 pages = (((refl, (refl, refl, refl, refl, tt)), refl), refl, inr (refl, λ clear. true≢false (sym clear.3)), ((refl, (refl, refl, refl, refl, tt)), refl), ((refl, (refl, refl, refl, refl, tt)), refl))
+
+-- the turns of a round that are written, on a terminal too
+traces : AsksFor View.Table (codes "trace") (codes "koth" ∷ codes "trace" ∷ codes "a" ∷ codes "b" ∷ codes "--lost" ∷ [])
+    × (round_in (given_by (codes "koth" ∷ codes "trace" ∷ codes "a" ∷ codes "b" ∷ codes "--round=7" ∷ codes "--last=20" ∷ [])) ≡ Round.Number 7)
+    × (number_given 4294967296 (one_of (codes "last") (given_by (codes "koth" ∷ codes "trace" ∷ codes "a" ∷ codes "b" ∷ codes "--round=7" ∷ codes "--last=20" ∷ []))) ≡ Some 20)
+    × (number_given 4294967296 (one_of (codes "last") (given_by (codes "koth" ∷ codes "trace" ∷ codes "a" ∷ codes "b" ∷ []))) ≡ None)
+    × (form_named (codes "koth" ∷ codes "trace" ∷ codes "a" ∷ codes "b" ∷ codes "--format=json" ∷ []) ≡ Form.Json)
+    × (form_named (codes "koth" ∷ codes "trace" ∷ codes "a" ∷ codes "b" ∷ []) ≡ Form.Text)
+    × (takes koth_app (codes "koth" ∷ codes "trace" ∷ codes "a" ∷ codes "b" ∷ codes "--last=0" ∷ []) ≡ false)
+    × (takes koth_app (codes "koth" ∷ codes "trace" ∷ codes "a" ∷ codes "b" ∷ codes "--output=t" ∷ []) ≡ false)
+    × AreWrong View.Plain (codes "koth" ∷ codes "trace" ∷ codes "a" ∷ codes "b" ∷ codes "--lost" ∷ codes "--won" ∷ [])
+unfolding clap_on_literals koth_app
+traces = (((refl, (refl, refl, refl, refl, tt)), refl), refl, refl, refl, refl, refl, refl, refl, inr (refl, λ clear. true≢false (sym clear.0)))
 
 -- an opponent or more, each in its place, and rounds one by one of one match alone
 opponents : AsksFor View.Plain (codes "fight") (codes "koth" ∷ codes "fight" ∷ codes "a" ∷ codes "b" ∷ codes "c" ∷ codes "--both" ∷ codes "d" ∷ [])
@@ -353,6 +367,13 @@ creations : AsksFor View.Plain (codes "serve") (codes "koth" ∷ codes "serve" �
 unfolding clap_on_literals koth_app
 creations = (((refl, (refl, refl, refl, refl, tt)), refl), refl, refl, refl)
 
+-- the seed of a hill that is created is drawn if none is given, be it the default one
+drawn_for_service : (draws_seed (given_by (codes "koth" ∷ codes "serve" ∷ codes "a.hill" ∷ codes "--port=0" ∷ codes "--create" ∷ [])) ≡ true)
+    × (draws_seed (given_by (codes "koth" ∷ codes "serve" ∷ codes "a.hill" ∷ codes "--port=0" ∷ codes "--create" ∷ codes "--seed=1" ∷ [])) ≡ false)
+    × (draws_seed (given_by (codes "koth" ∷ codes "serve" ∷ codes "a.hill" ∷ codes "--port=0" ∷ [])) ≡ false)
+unfolding clap_on_literals koth_app
+drawn_for_service = (refl, refl, refl)
+
 -- settings for a hill that is there are wrong, the default ones too
 unused_settings : AreWrong View.Plain (codes "koth" ∷ codes "serve" ∷ codes "a.hill" ∷ codes "--port=0" ∷ codes "--core=64" ∷ [])
     × AreWrong View.Plain (codes "koth" ∷ codes "serve" ∷ codes "a.hill" ∷ codes "--port=0" ∷ codes "--seed=1" ∷ [])
@@ -365,3 +386,62 @@ drawn_seeds : AsksFor View.Plain (codes "create") (codes "koth" ∷ codes "creat
     × (takes koth_app (codes "koth" ∷ codes "fight" ∷ codes "a" ∷ codes "b" ∷ codes "--draw-seed" ∷ []) ≡ false)
 unfolding clap_on_literals koth_app
 drawn_seeds = (((refl, (refl, refl, refl, refl, tt)), refl), inr (refl, λ clear. true≢false (sym clear.0)), refl)
+
+-- a field of folders and files, in their order; of no folder there is none, and only one of its sources is the input
+fields : AsksFor View.Plain (codes "rank") (codes "koth" ∷ codes "rank" ∷ codes "a" ∷ codes "--both" ∷ codes "b.red" ∷ codes "--rounds=3" ∷ [])
+    × (places_named (codes "FOLDER") (given_by (codes "koth" ∷ codes "rank" ∷ codes "a" ∷ codes "-" ∷ codes "b" ∷ []))
+    ≡ Place.File (codes "a") ∷ Place.Input (codes "standard input") ∷ Place.File (codes "b") ∷ [])
+    × (fault_of koth_app (codes "koth" ∷ codes "rank" ∷ codes "--both" ∷ []) ≡ ErrorKind.MissingRequiredArgument ∷ [])
+    × AreWrong View.Plain (codes "koth" ∷ codes "rank" ∷ codes "-" ∷ codes "-" ∷ [])
+unfolding clap_on_literals koth_app
+fields = (((refl, (refl, refl, refl, refl, tt)), refl), refl, refl, inr (refl, λ clear. true≢false (sym clear.2)))
+
+-- ---- a hill elsewhere
+
+elsewhere : AsksFor View.Plain (codes "submit") (codes "koth" ∷ codes "submit" ∷ codes "--to" ∷ codes "hill.example:6789" ∷ codes "a.red" ∷ codes "--timeout=5" ∷ codes "-s800" ∷ [])
+    × AsksFor View.Plain (codes "submit") (codes "koth" ∷ codes "submit" ∷ codes "--to=[::1]:6789" ∷ codes "-" ∷ codes "--name=a.red" ∷ codes "--like=h.hill" ∷ [])
+    × AsksFor View.Plain (codes "submit") (codes "koth" ∷ codes "submit" ∷ codes "--pipe" ∷ codes "a.red" ∷ codes "--preset=nano" ∷ [])
+    × AsksFor View.Plain (codes "show") (codes "koth" ∷ codes "show" ∷ codes "--to=127.0.0.1:1" ∷ [])
+unfolding clap_on_literals koth_app
+elsewhere = (((refl, (refl, refl, refl, refl, tt)), refl), ((refl, (refl, refl, refl, refl, tt)), refl), ((refl, (refl, refl, refl, refl, tt)), refl), ((refl, (refl, refl, refl, refl, tt)), refl))
+
+-- the source is the one file that is named, the way is an address or a pipe, and 600 seconds may be silent
+sent_words : (place_named (codes "FILE") (given_by (codes "koth" ∷ codes "submit" ∷ codes "--to=a:1" ∷ codes "a.red" ∷ [])) ≡ Place.File (codes "a.red"))
+    × (first_of (codes "to") (given_by (codes "koth" ∷ codes "submit" ∷ codes "--to=a:1" ∷ codes "a.red" ∷ [])) ≡ Some (codes "a:1"))
+    × (number_or 600 (one_of (codes "timeout") (given_by (codes "koth" ∷ codes "submit" ∷ codes "--to=a:1" ∷ codes "a.red" ∷ []))) ≡ 600)
+    × (number_or 600 (one_of (codes "timeout") (given_by (codes "koth" ∷ codes "show" ∷ codes "--to=a:1" ∷ codes "--timeout=7" ∷ []))) ≡ 7)
+    × (is_remote (given_by (codes "koth" ∷ codes "submit" ∷ codes "--pipe" ∷ codes "a.red" ∷ [])) ≡ true)
+    × (is_remote (given_by (codes "koth" ∷ codes "submit" ∷ codes "a.hill" ∷ codes "a.red" ∷ [])) ≡ false)
+    × (takes koth_app (codes "koth" ∷ codes "show" ∷ codes "--to=a:1" ∷ codes "--timeout=0" ∷ []) ≡ false)
+    × (takes koth_app (codes "koth" ∷ codes "show" ∷ codes "--to=a:1" ∷ codes "--timeout=86401" ∷ []) ≡ false)
+unfolding clap_on_literals koth_app
+sent_words = (refl, refl, refl, refl, refl, refl, refl, refl)
+
+-- a name or a number and a port, and no other text
+places : (names_port (codes "hill.example:6789") ≡ true) × (names_port (codes "[::1]:65535") ≡ true) × (names_port (codes "a:065535") ≡ true)
+    × (names_port (codes "127.0.0.1") ≡ false) × (names_port (codes "a:0") ≡ false) × (names_port (codes "a:65536") ≡ false) × (names_port (codes ":80") ≡ false)
+    × (names_port (codes "a:") ≡ false) × (names_port (codes "a:8x") ≡ false) × (names_port (codes "[::1]") ≡ false) × (names_port (codes "") ≡ false)
+places = (refl, refl, refl, refl, refl, refl, refl, refl, refl, refl, refl)
+
+-- no hill, two hills, and a source that is missing
+no_hills : AreWrong View.Plain (codes "koth" ∷ codes "submit" ∷ codes "a.red" ∷ [])
+    × AreWrong View.Plain (codes "koth" ∷ codes "submit" ∷ codes "--to=a:1" ∷ codes "a.hill" ∷ codes "a.red" ∷ [])
+    × AreWrong View.Plain (codes "koth" ∷ codes "submit" ∷ codes "--pipe" ∷ codes "a.hill" ∷ codes "a.red" ∷ [])
+    × AreWrong View.Plain (codes "koth" ∷ codes "show" ∷ [])
+    × AreWrong View.Plain (codes "koth" ∷ codes "show" ∷ codes "a.hill" ∷ codes "--to=a:1" ∷ [])
+unfolding clap_on_literals koth_app
+no_hills = (inr (refl, λ clear. true≢false (sym clear.3)), inr (refl, λ clear. true≢false (sym clear.3)), inr (refl, λ clear. true≢false (sym clear.3)), inr (refl, λ clear. true≢false (sym clear.3)), inr (refl, λ clear. true≢false (sym clear.3)))
+
+-- what a hill elsewhere has not, and what a hill in a file has not
+unfit : AreWrong View.Plain (codes "koth" ∷ codes "submit" ∷ codes "--to=a:1" ∷ codes "a.red" ∷ codes "--pipe" ∷ [])
+    × AreWrong View.Plain (codes "koth" ∷ codes "submit" ∷ codes "--to=a:1" ∷ codes "a.red" ∷ codes "--wait=1" ∷ [])
+    × AreWrong View.Plain (codes "koth" ∷ codes "submit" ∷ codes "--pipe" ∷ codes "-" ∷ [])
+    × AreWrong View.Plain (codes "koth" ∷ codes "submit" ∷ codes "--pipe" ∷ codes "a.red" ∷ codes "--timeout=1" ∷ [])
+    × AreWrong View.Plain (codes "koth" ∷ codes "submit" ∷ codes "a.hill" ∷ codes "a.red" ∷ codes "--timeout=1" ∷ [])
+    × AreWrong View.Plain (codes "koth" ∷ codes "submit" ∷ codes "a.hill" ∷ codes "a.red" ∷ codes "--like=b.hill" ∷ [])
+    × AreWrong View.Plain (codes "koth" ∷ codes "submit" ∷ codes "a.hill" ∷ codes "a.red" ∷ codes "-s80" ∷ [])
+    × AreWrong View.Plain (codes "koth" ∷ codes "show" ∷ codes "--to=a:1" ∷ codes "--matches" ∷ [])
+    × AreWrong View.Plain (codes "koth" ∷ codes "show" ∷ codes "--to=a:1" ∷ codes "--settings" ∷ [])
+    × AreWrong View.Plain (codes "koth" ∷ codes "show" ∷ codes "--to=localhost" ∷ [])
+unfolding clap_on_literals koth_app
+unfit = (inr (refl, λ clear. true≢false (sym clear.3)), inr (refl, λ clear. true≢false (sym clear.3)), inr (refl, λ clear. true≢false (sym clear.3)), inr (refl, λ clear. true≢false (sym clear.3)), inr (refl, λ clear. true≢false (sym clear.3)), inr (refl, λ clear. true≢false (sym clear.3)), inr (refl, λ clear. true≢false (sym clear.3)), inr (refl, λ clear. true≢false (sym clear.3)), inr (refl, λ clear. true≢false (sym clear.3)), inr (refl, λ clear. true≢false (sym clear.3)))

@@ -5,5 +5,7 @@ pub mod Options
 pub mod Settings
 -- the sources that words name
 pub mod Sources
+-- where a hill elsewhere is
+pub mod Place
 -- the requests that command lines make
 pub mod Words

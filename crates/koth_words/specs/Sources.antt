@@ -42,3 +42,4 @@ inputs_at name given = count_by is_input (words_in name given)
 -- how many sources are the input
 abbrev pub inputs_in : List Row → ℕ
 inputs_in given = inputs_at (codes "SOURCE") given + inputs_at (codes "MINE") given + inputs_at (codes "OTHER") given
+    + inputs_at (codes "FOLDER") given

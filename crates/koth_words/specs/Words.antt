@@ -3,9 +3,9 @@ use Rattle.std.specs.Prelude.{◌≡◌, ◌≢◌, ◌⊎◌, ◌==◌, ◌&&�
 use Rattle.std.specs.{Option.option_map_or, Net.{Addr.{IsIpv4Mapped, IsMulticastV6, IsWithinAt, MatchIp, ipv4_octets, ipv6_segments, low_octets}, Grammar.IsIpText}, Str.bytes_eq, List.list_any, declared.net.ip_addr.IpAddr.IpAddr}
 use Rattle.clap.specs.{Words.{IsAmong, Row, Text, all_of, fault_of, first_of, one_of, subcommand_of, takes}, declared.error.kind.ErrorKind.ErrorKind}
 use Rattle.war_types.specs.declared.settings.RawSettings.{RawSettings}
-use Rattle.koth_words.specs.{Options.{number_below, number_given, number_or}, Settings.{IsGiven, settings_in}, Sources.{inputs_in, is_input, place, place_named, places_named, words_in}, declared.settings.Given.Given}
-use Rattle.koth_words.specs.{declared.serving.TheConstants.STEPS, declared.requests.Checked.Checked, declared.requests.Fighters.Fighters, declared.requests.Form.Form, declared.requests.NoRequest.NoRequest, declared.requests.Request.Request}
-use Rattle.koth_words.specs.{declared.requests.Request.TheVariants.{Asm, Check, Fight, Create, Submit, Show, Serve, Session, Audit, Migrate, Page, Replay, Try, Copy, Reseed}, declared.requests.Round.Round, declared.requests.View.View}
+use Rattle.koth_words.specs.{Options.{number_below, number_given, number_or}, Place.writes_place, Settings.{IsGiven, settings_in}, Sources.{inputs_in, is_input, place, place_named, places_named, words_in}, declared.settings.Given.Given}
+use Rattle.koth_words.specs.{declared.serving.TheConstants.STEPS, declared.requests.Checked.Checked, declared.requests.Fighters.Fighters, declared.requests.Form.Form, declared.requests.NoRequest.NoRequest, declared.requests.Ranking.Ranking, declared.requests.Request.Request}
+use Rattle.koth_words.specs.{declared.requests.Request.TheVariants.{Asm, Check, Fight, Create, Submit, SubmitTo, Show, ShowTo, Serve, Session, Audit, Migrate, Page, Replay, Trace, Try, Copy, Reseed, Rank}, declared.requests.Round.Round, declared.requests.Sent.Sent, declared.requests.View.View, declared.requests.Way.Way}
 unfoldable pub use Rattle.koth_options.specs.Commands.{koth_app}
 
 -- what a command is given, if one is entered
@@ -131,6 +131,10 @@ has_setting given = has_option (codes "core") given || has_option (codes "cycles
     || has_option (codes "seed") given || has_option (codes "capacity") given || has_option (codes "read-limit") given
     || has_option (codes "write-limit") given || has_option (codes "preset") given
 
+-- `serve` draws the seed of a hill that it creates, unless one is given
+abbrev pub draws_seed : List Row → Bool
+draws_seed given = has_flag (codes "create") given && not (has_option (codes "seed") given)
+
 -- ---- words that are clear
 
 -- at most one of these is given
@@ -156,30 +160,71 @@ has_known_texts given = is_left_out_or (codes "text" ∷ codes "json" ∷ []) (f
     && is_left_out_or (codes "94nop" ∷ codes "tiny" ∷ codes "nano" ∷ []) (first_of (codes "preset") given)
     && is_left_out_or (codes "warnings" ∷ []) (first_of (codes "deny") given)
 
+-- the hill is elsewhere: at an address, or behind standard input and output
+abbrev pub is_remote : List Row → Bool
+is_remote given = has_option (codes "to") given || has_flag (codes "pipe") given
+
+-- the source that is sent there is the input
+abbrev pub sends_input : List Row → Bool
+sends_input given = is_remote given && is_input (text_or_none (first_of (codes "FILE") given))
+
 -- at most one source is the input, and messages have a name for it only if there is one; each round is told of one
 -- match alone
 abbrev pub has_clear_sources : List Row → Bool
 has_clear_sources given = nat_le (inputs_in given) 1
-    && not (has_option (codes "name") given && inputs_in given == 0)
+    && not (has_option (codes "name") given && inputs_in given == 0 && not (sends_input given))
     && not (has_flag (codes "each") given && (has_flag (codes "both") given || nat_lt 1 (length (words_in (codes "OTHER") given))))
 
 -- settings are given to a hill that has none: `serve`, which alone takes a port, uses them with `--create` alone
 abbrev pub uses_settings : List Row → Bool
 uses_settings given = not (has_option (codes "port") given && has_setting given && not (has_flag (codes "create") given))
 
--- a page goes into a file or past the terminal: `replay`, which alone has `--lost`, has `--output` if tables are for
--- people
-abbrev pub has_place : View → List Row → Bool
-has_place view given = not (has_option (codes "lost") given && is_table view && not (has_option (codes "output") given))
+-- `replay`, which alone shows a round and has no format
+abbrev pub shows_page : List Row → Bool
+shows_page given = has_option (codes "lost") given && not (has_option (codes "format") given)
 
--- what browsers are shown, and the names that they ask for, are given only where there are pages
+-- a page goes into a file or past the terminal: `replay` has `--output` if tables are for people
+abbrev pub has_place : View → List Row → Bool
+has_place view given = not (shows_page given && is_table view && not (has_option (codes "output") given))
+
+-- what only pages use: what browsers are shown, and the names that they ask for
+abbrev pub is_of_pages : List Row → Bool
+is_of_pages given = has_flag (codes "replays") given || has_option (codes "host") given || has_option (codes "title") given || has_option (codes "peers-at") given
+
+-- it is given only where there are pages
 abbrev pub has_pages : List Row → Bool
-has_pages given = not ((has_flag (codes "replays") given || has_option (codes "host") given) && not (has_option (codes "http") given))
+has_pages given = not (is_of_pages given && not (has_option (codes "http") given))
+
+-- a hill is named, in a file or elsewhere: `submit`, which alone has `--pipe`, names a hill file and a source, or a
+-- source for a hill elsewhere; `show`, which alone has `--matches`, names a hill file or a hill elsewhere
+abbrev pub names_hill : List Row → Bool
+names_hill given = not (has_option (codes "pipe") given && not (is_remote given) && not (has_option (codes "SOURCE") given))
+    && not (is_remote given && has_option (codes "SOURCE") given)
+    && not (has_option (codes "matches") given && not (has_option (codes "to") given) && not (has_option (codes "FILE") given))
+    && not (has_option (codes "matches") given && has_option (codes "to") given && has_option (codes "FILE") given)
+
+-- a hill elsewhere is at one place and has no lock, of it there is the table alone, its settings are given and not read
+-- from it, and through a pipe come its answers and not the source; it alone has a limit of time
+abbrev pub fits_elsewhere : List Row → Bool
+fits_elsewhere given = at_most_one (has_option (codes "wait") given ∷ has_option (codes "to") given ∷ has_flag (codes "pipe") given ∷ [])
+    && not (has_option (codes "to") given && (has_flag (codes "settings") given || has_flag (codes "matches") given))
+    && not (has_option (codes "timeout") given && not (has_option (codes "to") given))
+    && not (has_option (codes "pipe") given && not (is_remote given) && (has_setting given || has_option (codes "like") given))
+    && not (has_flag (codes "pipe") given && sends_input given)
+    && writes_place given
+
+-- settings, pages and names are given where they are of use
+abbrev pub has_use : View → List Row → Bool
+has_use view given = uses_settings given && has_place view given
+    && not (has_flag (codes "with-seed") given && not (has_flag (codes "settings") given)) && has_pages given
+
+-- the hill is named, and what is given fits it
+abbrev pub has_clear_hill : List Row → Bool
+has_clear_hill given = names_hill given && fits_elsewhere given
 
 -- what is given has what it needs
 abbrev pub has_needs : View → List Row → Bool
-has_needs view given = uses_settings given && has_place view given
-    && not (has_flag (codes "with-seed") given && not (has_flag (codes "settings") given)) && has_pages given
+has_needs view given = has_use view given && has_clear_hill given
 
 -- nothing that the program refuses beside `clap`, where tables are in this view
 abbrev pub AreClear : View → List Row → Type 0
@@ -232,6 +277,24 @@ pub record AreFighters (given : List Row) (fighters : Fighters) : Type 0 where
   pub each : fighters.each ≡ has_flag (codes "each") given
   pub view : fighters.view ≡ view_in given
 
+-- the field, and how its warriors fight each other
+pub record NamesField (given : List Row) (ranking : Ranking) : Type 0 where
+  pub field : map place ranking.field.items ≡ places_named (codes "FOLDER") given
+  pub both : ranking.both ≡ has_flag (codes "both") given
+  pub view : ranking.view ≡ view_in given
+
+-- the way to a hill elsewhere is the one that these rows give
+abbrev pub IsWay : List Row → Way → Type 0
+IsWay given (Way.To place timeout) = (has_flag (codes "pipe") given ≡ false)
+    × (place.now ≡ text_or_none (first_of (codes "to") given)) × (timeout ≡ number_or 600 (one_of (codes "timeout") given))
+IsWay given Way.Pipe = has_flag (codes "pipe") given ≡ true
+
+-- a source for a hill elsewhere, and the way to it
+pub record IsSent (given : List Row) (sent : Sent) : Type 0 where
+  pub way : IsWay given sent.way
+  pub source : place sent.source ≡ place_named (codes "FILE") given
+  pub view : sent.view ≡ view_in given
+
 -- the request is that of the command that was entered, by its name and what it was given
 abbrev pub Asks : Text × List Row → Request → Type 0
 Asks entered (Asm given source) = (entered.0 ≡ codes "asm") × IsGiven entered.1 given
@@ -242,12 +305,18 @@ Asks entered (Create given creation) = (entered.0 ≡ codes "create") × IsGiven
     × (creation.hill.now ≡ text_or_none (first_of (codes "FILE") entered.1))
     × (creation.overwrite ≡ has_flag (codes "overwrite") entered.1)
     × (creation.draw_seed ≡ has_flag (codes "draw-seed") entered.1)
-Asks entered (Submit files) = (entered.0 ≡ codes "submit")
+Asks entered (SubmitTo given sent) = (entered.0 ≡ codes "submit") × (is_remote entered.1 ≡ true) × IsGiven entered.1 given
+    × IsSent entered.1 sent
+Asks entered (ShowTo shown) = (entered.0 ≡ codes "show") × (has_option (codes "to") entered.1 ≡ true)
+    × (shown.to.now ≡ text_or_none (first_of (codes "to") entered.1))
+    × (shown.timeout ≡ number_or 600 (one_of (codes "timeout") entered.1))
+    × (shown.view ≡ view_in entered.1)
+Asks entered (Submit files) = (entered.0 ≡ codes "submit") × (is_remote entered.1 ≡ false)
     × (files.hill.now ≡ text_or_none (first_of (codes "FILE") entered.1))
     × (place files.source ≡ place_named (codes "SOURCE") entered.1)
     × (files.view ≡ view_in entered.1)
     × (files.wait ≡ number_or 0 (one_of (codes "wait") entered.1))
-Asks entered (Show shown) = (entered.0 ≡ codes "show")
+Asks entered (Show shown) = (entered.0 ≡ codes "show") × (has_option (codes "to") entered.1 ≡ false)
     × (shown.hill.now ≡ text_or_none (first_of (codes "FILE") entered.1))
     × (shown.matches ≡ matches_in entered.1)
     × (shown.settings ≡ has_flag (codes "settings") entered.1)
@@ -264,8 +333,11 @@ Asks entered (Serve settings service) = (entered.0 ≡ codes "serve") × (settin
     × (service.http ≡ number_given 4294967296 (one_of (codes "http") entered.1))
     × (map (λ host. host.now) service.hosts.items ≡ unwrap_or (all_of (codes "host") entered.1) [])
     × (service.replays ≡ has_flag (codes "replays") entered.1)
+    × (option_map (λ text. text.now) service.title ≡ first_of (codes "title") entered.1)
+    × (option_map (λ text. text.now) service.peers_at ≡ first_of (codes "peers-at") entered.1)
     × (service.quiet ≡ has_flag (codes "quiet") entered.1)
     × (service.create ≡ has_flag (codes "create") entered.1)
+    × (service.draw_seed ≡ draws_seed entered.1)
 Asks entered (Session session) = (entered.0 ≡ codes "session")
     × (session.hill.now ≡ text_or_none (first_of (codes "FILE") entered.1))
     × (session.wait ≡ number_or 0 (one_of (codes "wait") entered.1))
@@ -283,6 +355,12 @@ Asks entered (Replay given watched) = (entered.0 ≡ codes "replay") × IsGiven 
     × (place watched.younger ≡ place_named (codes "OTHER") entered.1)
     × (watched.round ≡ round_in entered.1)
     × (option_map (λ file. file.now) watched.page ≡ first_of (codes "output") entered.1)
+Asks entered (Trace given traced) = (entered.0 ≡ codes "trace") × IsGiven entered.1 given
+    × (place traced.older ≡ place_named (codes "MINE") entered.1)
+    × (place traced.younger ≡ place_named (codes "OTHER") entered.1)
+    × (traced.round ≡ round_in entered.1)
+    × (traced.last ≡ number_given 4294967296 (one_of (codes "last") entered.1))
+    × (traced.form ≡ form_in entered.1)
 Asks entered (Try files) = (entered.0 ≡ codes "try")
     × (files.hill.now ≡ text_or_none (first_of (codes "FILE") entered.1))
     × (place files.source ≡ place_named (codes "SOURCE") entered.1)
@@ -295,6 +373,7 @@ Asks entered (Reseed files) = (entered.0 ≡ codes "reseed")
     × (files.hill.now ≡ text_or_none (first_of (codes "FILE") entered.1))
     × (files.new.now ≡ text_or_none (first_of (codes "NEW") entered.1))
     × (files.seed ≡ number_given 4294967296 (one_of (codes "seed") entered.1))
+Asks entered (Rank given ranking) = (entered.0 ≡ codes "rank") × IsGiven entered.1 given × NamesField entered.1 ranking
 
 -- the same, if a command was entered
 abbrev pub AsksBy : Option (Text × List Row) → Request → Type 0
@@ -308,23 +387,28 @@ given_of (Check given checked) = Some given
 given_of (Fight given files) = Some given
 given_of (Create given creation) = Some given
 given_of (Submit files) = None
+given_of (SubmitTo given sent) = Some given
 given_of (Show shown) = None
+given_of (ShowTo shown) = None
 given_of (Serve settings service) = None
 given_of (Session session) = None
 given_of (Audit audited) = None
 given_of (Migrate files) = None
 given_of (Page file) = None
 given_of (Replay given watched) = Some given
+given_of (Trace given traced) = Some given
 given_of (Try files) = None
 given_of (Copy files) = None
 given_of (Reseed files) = None
+given_of (Rank given ranking) = Some given
 
 -- the name of a command
 abbrev pub IsCommandName : Text → Type 0
 IsCommandName name = (name ≡ codes "asm") ⊎ (name ≡ codes "check") ⊎ (name ≡ codes "fight")
     ⊎ (name ≡ codes "create") ⊎ (name ≡ codes "submit") ⊎ (name ≡ codes "show")
     ⊎ (name ≡ codes "serve") ⊎ (name ≡ codes "session") ⊎ (name ≡ codes "audit") ⊎ (name ≡ codes "migrate") ⊎ (name ≡ codes "page")
-    ⊎ (name ≡ codes "replay") ⊎ (name ≡ codes "try") ⊎ (name ≡ codes "copy") ⊎ (name ≡ codes "reseed")
+    ⊎ (name ≡ codes "replay") ⊎ (name ≡ codes "trace") ⊎ (name ≡ codes "try") ⊎ (name ≡ codes "copy")
+    ⊎ (name ≡ codes "reseed") ⊎ (name ≡ codes "rank")
 
 -- a command is named
 abbrev pub NamesCommand : Option Text → Type 0

@@ -1,9 +1,13 @@
 //! What the program refuses of the words that `clap` takes.
 
 ghost use Rattle.std.specs.Prelude.{◌≡◌, None, is_some, not, true};
-ghost use Rattle.{clap.specs.Words.{found_of, rows_of}, koth_words.specs.Words.{at_most_one, has_clear_sources, has_known_texts, has_needs, has_one_choice, is_table, AreClear}};
+ghost use Rattle.{clap.specs.Words.{found_of, rows_of}, koth_words.specs.Words.{at_most_one, fits_elsewhere, has_clear_hill, has_clear_sources, has_known_texts, has_needs, has_one_choice, has_use, is_of_pages, is_table, shows_page, names_hill, AreClear}};
 
-use crate::given::{asks_json, flag_given, option_given, setting_given, text_given, words_given};
+use crate::given::{
+    asks_json, flag_given, is_remote, option_given, sends_input, setting_given, text_given,
+    words_given,
+};
+use crate::place::writes_place;
 use crate::requests::View;
 use crate::serving::has_address;
 use crate::sources::inputs_given;
@@ -103,7 +107,7 @@ fn unclear_sources(given: &ArgMatches<'_>) -> Option<&'static str>
     if inputs > 1 {
         return Some("only one source can be '-', which is standard input");
     }
-    if option_given(given, "name") & (inputs == 0) {
+    if option_given(given, "name") & (inputs == 0) & !sends_input(given) {
         return Some("the argument '--name <NAME>' needs '-' as a source");
     }
     let others = words_given(given, "OTHER").unwrap_or(&[]).len();
@@ -117,21 +121,116 @@ fn unclear_sources(given: &ArgMatches<'_>) -> Option<&'static str>
 fn unmet_need(view: View, given: &ArgMatches<'_>) -> Option<&'static str>
     ensures { is_some result ≡ not (has_needs view (rows_of (found_of given.now))) }
 {
+    if let Some(why) = without_use(view, given) {
+        return Some(why);
+    }
+    unclear_hill(given)
+}
+
+/// What is given and of no use.
+fn without_use(view: View, given: &ArgMatches<'_>) -> Option<&'static str>
+    ensures { is_some result ≡ not (has_use view (rows_of (found_of given.now))) }
+{
     if option_given(given, "port") & setting_given(given) & !flag_given(given, "create") {
         return Some(
             "options that give settings need '--create': a hill that is there keeps its own",
         );
     }
-    if option_given(given, "lost") & is_table(view) & !option_given(given, "output") {
+    if shows_page(given) & is_table(view) & !option_given(given, "output") {
         return Some("a page needs '--output <FILE>' where standard output is a terminal");
     }
     if flag_given(given, "with-seed") & !flag_given(given, "settings") {
         return Some("the argument '--with-seed' needs '--settings'");
     }
-    if (flag_given(given, "replays") | option_given(given, "host")) & !option_given(given, "http") {
-        return Some("the arguments '--replays' and '--host <NAME>' need '--http <NUMBER>'");
+    if is_of_pages(given) & !option_given(given, "http") {
+        return Some(
+            "the arguments '--replays', '--host <NAME>', '--title <TEXT>' and '--peers-at <ADDRESS>' need '--http <NUMBER>'",
+        );
     }
     None
+}
+
+/// Whether this is `replay`, which alone shows a round and has no format.
+fn shows_page(given: &ArgMatches<'_>) -> bool
+    ensures { result ≡ shows_page (rows_of (found_of given.now)) }
+{
+    option_given(given, "lost") & !option_given(given, "format")
+}
+
+/// A hill that is not named, or that something doesn't fit.
+fn unclear_hill(given: &ArgMatches<'_>) -> Option<&'static str>
+    ensures { is_some result ≡ not (has_clear_hill (rows_of (found_of given.now))) }
+{
+    if let Some(why) = unnamed_hill(given) {
+        return Some(why);
+    }
+    unfit_elsewhere(given)
+}
+
+/// A hill that is not named, or named twice.
+fn unnamed_hill(given: &ArgMatches<'_>) -> Option<&'static str>
+    ensures { is_some result ≡ not (names_hill (rows_of (found_of given.now))) }
+{
+    if option_given(given, "pipe") & !is_remote(given) & !option_given(given, "SOURCE") {
+        return Some("a hill file and a source are needed, or '--to <ADDRESS:PORT>' and a source");
+    }
+    if is_remote(given) & option_given(given, "SOURCE") {
+        return Some("a hill file cannot be used with '--to <ADDRESS:PORT>' or '--pipe'");
+    }
+    if option_given(given, "matches") & !option_given(given, "to") & !option_given(given, "FILE") {
+        return Some("a hill file is needed, or '--to <ADDRESS:PORT>'");
+    }
+    if option_given(given, "matches") & option_given(given, "to") & option_given(given, "FILE") {
+        return Some("a hill file cannot be used with '--to <ADDRESS:PORT>'");
+    }
+    None
+}
+
+/// What doesn't go with a hill elsewhere, or goes with no other.
+fn unfit_elsewhere(given: &ArgMatches<'_>) -> Option<&'static str>
+    ensures { is_some result ≡ not (fits_elsewhere (rows_of (found_of given.now))) }
+{
+    if !at_most_one(&[
+        option_given(given, "wait"),
+        option_given(given, "to"),
+        flag_given(given, "pipe"),
+    ]) {
+        return Some(
+            "the arguments '--wait <NUMBER>', '--to <ADDRESS:PORT>' and '--pipe' cannot be used together",
+        );
+    }
+    let of_file = flag_given(given, "settings") | flag_given(given, "matches");
+    if option_given(given, "to") & of_file {
+        return Some("the arguments '--settings' and '--matches' need a hill file");
+    }
+    if option_given(given, "timeout") & !option_given(given, "to") {
+        return Some("the argument '--timeout <NUMBER>' needs '--to <ADDRESS:PORT>'");
+    }
+    let settings = setting_given(given) | option_given(given, "like");
+    if option_given(given, "pipe") & !is_remote(given) & settings {
+        return Some(
+            "options that give settings need '--to <ADDRESS:PORT>' or '--pipe': a hill in a file has its own",
+        );
+    }
+    if flag_given(given, "pipe") & sends_input(given) {
+        return Some("the argument '--pipe' needs a source in a file");
+    }
+    if !writes_place(given) {
+        return Some(
+            "the argument '--to <ADDRESS:PORT>' takes a name or a number, IPv6 in brackets, and a port from 1 to 65535",
+        );
+    }
+    None
+}
+
+/// Whether something is given that only pages use.
+fn is_of_pages(given: &ArgMatches<'_>) -> bool
+    ensures { result ≡ is_of_pages (rows_of (found_of given.now)) }
+{
+    flag_given(given, "replays")
+        | option_given(given, "host")
+        | option_given(given, "title")
+        | option_given(given, "peers-at")
 }
 
 fn is_table(view: View) -> bool

@@ -2,16 +2,19 @@
 
 ghost use Rattle.std.specs.Prelude.{◌≡◌, codes, map, option_map, IfOk};
 ghost use Rattle.{clap.specs.Words.{all_of, first_of, found_of, one_of, rows_of}, koth_words.specs.{Options.{number_given, number_or}, Sources.{place, place_named, words_in}}};
-ghost use Rattle.koth_words.specs.Words.{asks_json, form_in, has_flag, has_option, has_setting, matches_in, round_in, text_or_none, view_in, AreFighters, IsChecked};
+ghost use Rattle.koth_words.specs.Words.{asks_json, form_in, has_flag, has_option, has_setting, is_remote, matches_in, round_in, sends_input, text_or_none, view_in, AreFighters, IsChecked, NamesField, IsSent, IsWay};
 
 use crate::options::{number_given, number_if_given};
 use crate::requests::{
-    Audited, Checked, Copied, Creation, Fighters, Form, Migration, Reseeded, Round, Shown,
-    Submission, View, Watched,
+    Audited, Checked, Copied, Creation, Fighters, Form, Migration, Ranking, Reseeded, Round, Sent,
+    Shown, ShownAt, Submission, Traced, View, Watched, Way,
 };
 use crate::sources::{source_named, sources_named};
 use clap::ArgMatches;
 use std::alloc::{AllocError, Global};
+
+/// Seconds for which nothing may come from a hill elsewhere, unless `--timeout` is given.
+const SILENT: u32 = 600;
 
 /// The sources to check, and the form of the report.
 pub(crate) fn checked_named<'w>(
@@ -124,6 +127,60 @@ pub(crate) fn submission_named<'w>(matches: &ArgMatches<'w>) -> Submission<'w>
     }
 }
 
+/// Whether the hill is elsewhere.
+pub(crate) fn is_remote(matches: &ArgMatches<'_>) -> bool
+    ensures { result ≡ is_remote (rows_of (found_of matches.now)) }
+{
+    option_given(matches, "to") | flag_given(matches, "pipe")
+}
+
+/// Whether the source that is sent there is the input.
+pub(crate) fn sends_input(matches: &ArgMatches<'_>) -> bool
+    ensures { result ≡ sends_input (rows_of (found_of matches.now)) }
+{
+    is_remote(matches) & (file_named(matches, "FILE") == "-")
+}
+
+pub(crate) fn sent_named<'w>(matches: &ArgMatches<'w>) -> Sent<'w>
+    ensures { IsSent (rows_of (found_of matches.now)) result }
+{
+    Sent {
+        way: way_given(matches),
+        source: source_named(matches, "FILE"),
+        view: view_given(matches),
+    }
+}
+
+/// The way to a hill elsewhere.
+fn way_given<'w>(matches: &ArgMatches<'w>) -> Way<'w>
+    ensures { IsWay (rows_of (found_of matches.now)) result }
+{
+    if flag_given(matches, "pipe") {
+        Way::Pipe
+    } else {
+        Way::To(file_named(matches, "to"), timeout_given(matches))
+    }
+}
+
+pub(crate) fn shown_at_named<'w>(matches: &ArgMatches<'w>) -> ShownAt<'w>
+    ensures to { result.to.now ≡ text_or_none (first_of (codes "to") (rows_of (found_of matches.now))) }
+    ensures timeout { result.timeout ≡ number_or 600 (one_of (codes "timeout") (rows_of (found_of matches.now))) }
+    ensures view { result.view ≡ view_in (rows_of (found_of matches.now)) }
+{
+    ShownAt {
+        to: file_named(matches, "to"),
+        timeout: timeout_given(matches),
+        view: view_given(matches),
+    }
+}
+
+/// The seconds for which nothing may come from a hill elsewhere.
+fn timeout_given(matches: &ArgMatches<'_>) -> u32
+    ensures { result ≡ number_or 600 (one_of (codes "timeout") (rows_of (found_of matches.now))) }
+{
+    number_given(matches, "timeout", SILENT)
+}
+
 pub(crate) fn shown_named<'w>(matches: &ArgMatches<'w>) -> Shown<'w>
     ensures hill { result.hill.now ≡ text_or_none (first_of (codes "FILE") (rows_of (found_of matches.now))) }
     ensures matches { result.matches ≡ matches_in (rows_of (found_of matches.now)) }
@@ -182,6 +239,22 @@ pub(crate) fn watched_named<'w>(matches: &ArgMatches<'w>) -> Watched<'w>
     }
 }
 
+pub(crate) fn traced_named<'w>(matches: &ArgMatches<'w>) -> Traced<'w>
+    ensures older { place result.older ≡ place_named (codes "MINE") (rows_of (found_of matches.now)) }
+    ensures younger { place result.younger ≡ place_named (codes "OTHER") (rows_of (found_of matches.now)) }
+    ensures round { result.round ≡ round_in (rows_of (found_of matches.now)) }
+    ensures last { result.last ≡ number_given 4294967296 (one_of (codes "last") (rows_of (found_of matches.now))) }
+    ensures form { result.form ≡ form_in (rows_of (found_of matches.now)) }
+{
+    Traced {
+        older: source_named(matches, "MINE"),
+        younger: source_named(matches, "OTHER"),
+        round: round_given(matches),
+        last: number_if_given(matches, "last"),
+        form: form_given(matches),
+    }
+}
+
 /// The round that is asked for, and else the first.
 fn round_given(matches: &ArgMatches<'_>) -> Round
     ensures { result ≡ round_in (rows_of (found_of matches.now)) }
@@ -229,6 +302,19 @@ pub(crate) fn reseeded_named<'w>(matches: &ArgMatches<'w>) -> Reseeded<'w>
         new: file_named(matches, "NEW"),
         seed: number_if_given(matches, "seed"),
     }
+}
+
+pub(crate) fn ranking_named<'w>(
+    heap: Global,
+    matches: &ArgMatches<'w>,
+) -> Result<Ranking<'w>, AllocError>
+    ensures { IfOk result (NamesField (rows_of (found_of matches.now))) }
+{
+    Ok(Ranking {
+        field: sources_named(heap, matches, "FOLDER")?,
+        both: flag_given(matches, "both"),
+        view: view_given(matches),
+    })
 }
 
 /// The file in this argument. `clap` refuses a command line without it.

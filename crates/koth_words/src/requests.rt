@@ -20,8 +20,12 @@ pub enum Request<'w> {
     Create(Given<'w>, Creation<'w>),
     /// `submit`: submit a source to a hill, and write its reply.
     Submit(Submission<'w>),
+    /// `submit` with `--to` or `--pipe`: submit a source to a hill elsewhere, which has these settings.
+    SubmitTo(Given<'w>, Sent<'w>),
     /// `show`: write the table of a hill.
     Show(Shown<'w>),
+    /// `show` with `--to`: write the table of a hill elsewhere.
+    ShowTo(ShownAt<'w>),
     /// `serve`: serve sessions on a hill, which is created with these settings if that is asked for and there is none.
     Serve(RawSettings, Service<'w>),
     /// `session`: serve one session on a hill over standard input and output.
@@ -34,12 +38,16 @@ pub enum Request<'w> {
     Page(&'w str),
     /// `replay`: write the page of one round of a match under these settings.
     Replay(Given<'w>, Watched<'w>),
+    /// `trace`: write the turns of one round of a match under these settings.
+    Trace(Given<'w>, Traced<'w>),
     /// `try`: write what a submission would be answered.
     Try(Submission<'w>),
     /// `copy`: copy a hill to a new file.
     Copy(Copied<'w>),
     /// `reseed`: make a new hill with another seed, and submit the warriors of a hill to it.
     Reseed(Reseeded<'w>),
+    /// `rank`: play the match of each two warriors of a field under these settings, and write the warriors by points.
+    Rank(Given<'w>, Ranking<'w>),
 }
 
 impl<'w> Request<'w> {
@@ -52,9 +60,13 @@ impl<'w> Request<'w> {
             | Request::Check(given, _)
             | Request::Fight(given, _)
             | Request::Create(given, _)
-            | Request::Replay(given, _) => Some(given),
+            | Request::SubmitTo(given, _)
+            | Request::Replay(given, _)
+            | Request::Trace(given, _)
+            | Request::Rank(given, _) => Some(given),
             Request::Submit(_)
             | Request::Show(_)
+            | Request::ShowTo(_)
             | Request::Serve(..)
             | Request::Session(_)
             | Request::Audit(_)
@@ -146,6 +158,36 @@ pub struct Submission<'w> {
     pub wait: u32,
 }
 
+/// The way to a hill elsewhere.
+#[derive(Clone, Copy)]
+pub enum Way<'w> {
+    /// A connection to this address and port, and the seconds for which nothing may come from there, 1 to 86,400.
+    To(&'w str, u32),
+    /// Standard input and output, which lead to a session.
+    Pipe,
+}
+
+/// A source that is sent to a hill elsewhere.
+#[derive(Clone, Copy)]
+pub struct Sent<'w> {
+    pub way: Way<'w>,
+    /// Not the input if the way is a pipe.
+    pub source: Source<'w>,
+    /// The layout that is asked for, if one is.
+    pub view: Option<View>,
+}
+
+/// A hill elsewhere whose table is written.
+#[derive(Clone, Copy)]
+pub struct ShownAt<'w> {
+    /// Its address and port.
+    pub to: &'w str,
+    /// The seconds for which nothing may come from there, 1 to 86,400.
+    pub timeout: u32,
+    /// The layout that is asked for, if one is.
+    pub view: Option<View>,
+}
+
 /// The file of a hill, and what is written of it.
 #[derive(Clone, Copy)]
 pub struct Shown<'w> {
@@ -190,10 +232,16 @@ pub struct Service<'w> {
     pub hosts: Vec<&'w str>,
     /// Whether browsers see rounds too: their pages have both warriors whole.
     pub replays: bool,
+    /// The title of the hill's page, if one is given.
+    pub title: Option<&'w str>,
+    /// Where peers submit by the hill's page, if that is given: a host and a port, with a colon between them.
+    pub peers_at: Option<&'w str>,
     /// Whether no line is written for a connection.
     pub quiet: bool,
     /// Whether the hill is created first if there is no file.
     pub create: bool,
+    /// Whether the seed of a hill that is created is drawn, in place of that of the settings: none is given.
+    pub draw_seed: bool,
 }
 
 /// The file of a hill, and how one session on it is served.
@@ -224,6 +272,17 @@ pub struct Watched<'w> {
     pub round: Round,
     /// The file for the page; it is written on the output if none is named.
     pub page: Option<&'w str>,
+}
+
+/// The sources of two warriors, and which turns of a round of their match are written.
+#[derive(Clone, Copy)]
+pub struct Traced<'w> {
+    pub older: Source<'w>,
+    pub younger: Source<'w>,
+    pub round: Round,
+    /// How many turns, the last ones of the round; all if it is `None`.
+    pub last: Option<u32>,
+    pub form: Form,
 }
 
 /// A round of a match.
@@ -257,6 +316,17 @@ pub struct Reseeded<'w> {
     pub new: &'w str,
     /// The seed of the new one; one is drawn if it is `None`.
     pub seed: Option<u32>,
+}
+
+/// The sources of a field, and how its warriors fight each other.
+#[derive(Drop)]
+pub struct Ranking<'w> {
+    /// In the order of the command line; one or more.
+    pub field: Vec<Source<'w>>,
+    /// Whether each match is played in the other order too.
+    pub both: bool,
+    /// The layout that is asked for, if one is.
+    pub view: Option<View>,
 }
 
 /// Why a command line gives no request.

@@ -1,10 +1,10 @@
 //! What the arguments that `clap` took give a service, or one session.
 
-ghost use Rattle.std.specs.{Prelude.{◌≡◌, ◌↔◌, [], Some, codes, map, unwrap_or, IfOk, IsTrue}, Net.Addr.ipv4_octets};
+ghost use Rattle.std.specs.{Prelude.{◌≡◌, ◌↔◌, [], Some, codes, map, option_map, unwrap_or, IfOk, IsTrue}, Net.Addr.ipv4_octets};
 ghost use Rattle.{clap.specs.Words.{all_of, first_of, found_of, one_of, rows_of}, koth_words.specs.Options.{number_below, number_given, number_or}};
-ghost use Rattle.koth_words.specs.Words.{has_flag, text_or_none, AreOfMany, HasAddress, IsAddress, IsOfMany, WritesAddress};
+ghost use Rattle.koth_words.specs.Words.{draws_seed, has_flag, text_or_none, AreOfMany, HasAddress, IsAddress, IsOfMany, WritesAddress};
 
-use crate::given::{file_named, flag_given, text_given, texts_given};
+use crate::given::{file_named, flag_given, option_given, text_given, texts_given};
 use crate::options::{number_given, number_if_given};
 use crate::requests::{Service, Session};
 use clap::ArgMatches;
@@ -51,9 +51,14 @@ pub(crate) fn service_named<'w>(
         ≡ unwrap_or (all_of (codes "host") (rows_of (found_of matches.now))) []) }
     ensures replays { IfOk result (λ service. service.replays
         ≡ has_flag (codes "replays") (rows_of (found_of matches.now))) }
+    ensures title { IfOk result (λ service. option_map (λ text. text.now) service.title
+        ≡ first_of (codes "title") (rows_of (found_of matches.now))) }
+    ensures peers_at { IfOk result (λ service. option_map (λ text. text.now) service.peers_at
+        ≡ first_of (codes "peers-at") (rows_of (found_of matches.now))) }
     ensures quiet { IfOk result (λ service. service.quiet ≡ has_flag (codes "quiet") (rows_of (found_of matches.now))) }
     ensures create { IfOk result (λ service. service.create
         ≡ has_flag (codes "create") (rows_of (found_of matches.now))) }
+    ensures draw_seed { IfOk result (λ service. service.draw_seed ≡ draws_seed (rows_of (found_of matches.now))) }
 {
     Ok(Service {
         hill: file_named(matches, "FILE"),
@@ -66,9 +71,19 @@ pub(crate) fn service_named<'w>(
         http: number_if_given(matches, "http"),
         hosts: texts_given(heap, matches, "host")?,
         replays: flag_given(matches, "replays"),
+        title: text_given(matches, "title"),
+        peers_at: text_given(matches, "peers-at"),
         quiet: flag_given(matches, "quiet"),
         create: flag_given(matches, "create"),
+        draw_seed: draws_seed(matches),
     })
+}
+
+/// Whether a seed is drawn for a hill that is created: none is given.
+fn draws_seed(matches: &ArgMatches<'_>) -> bool
+    ensures { result ≡ draws_seed (rows_of (found_of matches.now)) }
+{
+    flag_given(matches, "create") && !option_given(matches, "seed")
 }
 
 pub(crate) fn session_named<'w>(matches: &ArgMatches<'w>) -> Session<'w>

@@ -57,6 +57,7 @@ pub(crate) fn inputs_given(matches: &ArgMatches<'_>) -> usize
     inputs_at(matches, "SOURCE")
         .saturating_add(inputs_at(matches, "MINE"))
         .saturating_add(inputs_at(matches, "OTHER"))
+        .saturating_add(inputs_at(matches, "FOLDER"))
 }
 
 /// How many words of this argument are `-`.

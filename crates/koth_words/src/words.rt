@@ -7,7 +7,8 @@ ghost use Rattle.koth_words.specs.Words.{given_in, koth_app, AreClear, AreTaken,
 use crate::clear::unclear;
 use crate::given::{
     audited_named, checked_named, copied_named, creation_named, fighters_named, file_named,
-    migration_named, reseeded_named, shown_named, submission_named, watched_named,
+    is_remote, migration_named, option_given, ranking_named, reseeded_named, sent_named,
+    shown_at_named, shown_named, submission_named, traced_named, watched_named,
 };
 use crate::habits::{begin_with_source, fight_of, habit_among};
 use crate::requests::{NoRequest, Request, View};
@@ -83,8 +84,8 @@ fn asked<'w>(heap: Global, name: &str, given: &ArgMatches<'w>) -> Result<Request
             Err(error) => Err(error),
         },
         "create" => Ok(Request::Create(given_named(given), creation_named(given))),
-        "submit" => Ok(Request::Submit(submission_named(given))),
-        "show" => Ok(Request::Show(shown_named(given))),
+        "submit" => Ok(submission_asked(given)),
+        "show" => Ok(table_asked(given)),
         "serve" => match service_named(heap, given) {
             Ok(service) => Ok(Request::Serve(settings_given(given), service)),
             Err(error) => Err(error),
@@ -94,10 +95,37 @@ fn asked<'w>(heap: Global, name: &str, given: &ArgMatches<'w>) -> Result<Request
         "migrate" => Ok(Request::Migrate(migration_named(given))),
         "page" => Ok(Request::Page(file_named(given, "FILE"))),
         "replay" => Ok(Request::Replay(given_named(given), watched_named(given))),
+        "trace" => Ok(Request::Trace(given_named(given), traced_named(given))),
         "try" => Ok(Request::Try(submission_named(given))),
         "copy" => Ok(Request::Copy(copied_named(given))),
         "reseed" => Ok(Request::Reseed(reseeded_named(given))),
+        "rank" => match ranking_named(heap, given) {
+            Ok(ranking) => Ok(Request::Rank(given_named(given), ranking)),
+            Err(error) => Err(error),
+        },
         _ => unreachable!(),
+    }
+}
+
+/// The request of `submit`: to a hill in a file, or to one elsewhere.
+fn submission_asked<'w>(given: &ArgMatches<'w>) -> Request<'w>
+    ensures { Asks (codes "submit", rows_of (found_of given.now)) result }
+{
+    if is_remote(given) {
+        Request::SubmitTo(given_named(given), sent_named(given))
+    } else {
+        Request::Submit(submission_named(given))
+    }
+}
+
+/// The request of `show`: of a hill in a file, or of one elsewhere.
+fn table_asked<'w>(given: &ArgMatches<'w>) -> Request<'w>
+    ensures { Asks (codes "show", rows_of (found_of given.now)) result }
+{
+    if option_given(given, "to") {
+        Request::ShowTo(shown_at_named(given))
+    } else {
+        Request::Show(shown_named(given))
     }
 }
 

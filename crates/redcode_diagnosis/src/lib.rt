@@ -1,7 +1,7 @@
 //! Refusals and warnings of a source for people: where in the line the fault is, what is wrong, and what was probably meant.
 //!
 //! `diagnosis` has the refusals of a source, each with its place and its sentence, which are `redcode_blame`'s, and `assembled` the first
-//! of them beside an assembly. `text` writes a refusal or one of `redcode_warnings`' warnings.
+//! of them beside an assembly. `text` writes a refusal or one of `redcode_warnings`' warnings, with the part of the line that `excerpt` has.
 //!
 //! The main clauses: `diagnose` answers no refusal if `assembly` gives a warrior, and else the assembler's first and after it those that
 //! `redcode_scene` defines (`TellsAll`). After a name that is defined twice others may stand, no two of one line. Each place lies within
@@ -12,6 +12,7 @@
 
 mod assembled;
 mod diagnosis;
+mod excerpt;
 mod further;
 mod text;
 

@@ -4,6 +4,7 @@ ghost use Rattle.std.specs.Prelude.{◌≡◌, ◌++◌, IfOk, OnOk};
 ghost use Rattle.redcode_diagnosis.specs.Text.{Begins, heading, numbered, said_heading, shown_line, warning_heading};
 
 use crate::diagnosis::Diagnosis;
+use crate::excerpt::{beginning_of, begins_character, bytes_in, excerpt_of};
 use itoa::Buffer;
 use redcode_blame::{Copied, Part, say};
 use redcode_lines::{Span, append_shown, line_text, part_of};
@@ -15,8 +16,9 @@ const NUMBER_PLACES: usize = 5;
 
 /// A refusal of a source as text: `PATH:LINE:COLUMN: Kind: sentence`, with line 1 if the source as a whole is to blame. If a line is to
 /// blame, its text follows, with a caret under each character to blame; if that line stands in a block, so does how it reads in the copy
-/// that is refused. Each line ends with a line feed. A question mark is shown for each character that a terminal acts upon, but for the
-/// tab; the path is shown as it is. It fails when memory runs out.
+/// that is refused. Of either text at most 100 characters are shown, with two dots where it is cut. Each line ends with a line feed. A
+/// question mark is shown for each character that a terminal acts upon, but for the tab; the path is shown as it is. It fails when memory
+/// runs out.
 pub fn text_of<A: Allocator + Copy>(
     alloc: A,
     path: &[u8],
@@ -127,18 +129,46 @@ fn append_line<A: Allocator>(
     line: &[u8],
     said: &Said,
 ) -> Result<(), AllocError> {
-    append_number(text, said.line)?;
-    append_shown(text, line)?;
-    text.extend_from_slice(b"\n      | ")?;
     let from = said.column.saturating_sub(1);
+    let excerpt = excerpt_of(line, from);
+    append_number(text, said.line)?;
+    append_excerpt(text, line, excerpt)?;
+    text.extend_from_slice(b"\n      | ")?;
+    append_cut(text, excerpt.from > 0, b"  ")?;
+    let shown = part_of(line, excerpt);
+    let from = from.saturating_sub(excerpt.from);
     let before = Span {
         from: 0,
         width: from,
     };
     let width = said.width;
-    append_blanks(text, part_of(line, before))?;
-    append_carets(text, part_of(line, Span { from, width }))?;
+    append_blanks(text, part_of(shown, before))?;
+    append_carets(text, part_of(shown, Span { from, width }))?;
     text.extend_from_slice(b"\n")
+}
+
+/// Appends a part of a line, with two dots where it is cut.
+fn append_excerpt<A: Allocator>(
+    text: &mut Vec<u8, A>,
+    line: &[u8],
+    excerpt: Span,
+) -> Result<(), AllocError> {
+    append_cut(text, excerpt.from > 0, b"..")?;
+    append_shown(text, part_of(line, excerpt))?;
+    let end = excerpt.from.saturating_add(excerpt.width);
+    append_cut(text, end < bytes_in(line), b"..")
+}
+
+/// Appends a mark where a text is cut.
+fn append_cut<A: Allocator>(
+    text: &mut Vec<u8, A>,
+    is_cut: bool,
+    mark: &[u8],
+) -> Result<(), AllocError> {
+    if is_cut {
+        text.extend_from_slice(mark)?;
+    }
+    Ok(())
 }
 
 /// Appends the number of a line at the right of its places, and a bar.
@@ -182,11 +212,6 @@ fn behind_first(part: &[u8]) -> &[u8] {
     }
 }
 
-/// Whether a byte is the first of a character's UTF-8.
-fn begins_character(byte: u8) -> bool {
-    byte & 0xc0 != 0x80
-}
-
 /// Appends how a line reads in a copy.
 fn append_copy<A: Allocator, B: Allocator>(
     text: &mut Vec<u8, A>,
@@ -202,14 +227,15 @@ fn append_copy<A: Allocator, B: Allocator>(
     } else {
         ", where it reads: "
     };
+    let (shown, is_cut) = beginning_of(copy.text.as_slice());
     let parts = [
         Part::Text("      | in copy "),
         Part::Number(i64::from(copy.times)),
         Part::Text(of),
         Part::Number(i64::from(copy.block)),
         Part::Text(around),
-        Part::Bytes(copy.text.as_slice()),
-        Part::Text("\n"),
+        Part::Bytes(shown),
+        Part::Text(if is_cut { "..\n" } else { "\n" }),
     ];
     say(text, &parts)
 }

@@ -1,7 +1,7 @@
--- Labels that nothing uses, and that are probably misspelt operations.
+-- Labels and names of EQU lines that nothing uses, and that are probably misspelt operations.
 use Rattle.std.specs.{Prelude.{ℕ, ◌+◌, ◌-◌, Bool, true, false, not, ◌&&◌, ◌||◌, ◌==◌, nat_lt, if◌then◌else◌, List, [], ◌∷◌, length, map, slice_index, find, is_some, Option, Some, None}, Str.bytes_eq, Char.to_ascii_lowercase}
 use Rattle.{redcode_text.specs.{Bytes.is_digit, Tokens.Piece, Vocabulary.reserved_words, declared.vocabulary.Word.Word}, redcode_lines.specs.{declared.reading.LineForm.LineForm, Line.{SourceLine, behind_labels, has_and, is_name}}}
-use Rattle.redcode_warnings.specs.declared.kind.WarningKind.{WarningKind}
+use Rattle.redcode_warnings.specs.{declared.kind.WarningKind.{WarningKind}, Start.is_start_name}
 
 -- ---- names that are nearly a reserved word
 
@@ -10,13 +10,13 @@ abbrev pub are_exchanged : List ℕ → List ℕ → Bool
 are_exchanged (a ∷ b ∷ from) (c ∷ d ∷ to) = a == d && (b == c && bytes_eq from to)
 are_exchanged _ _ = false
 
--- one letter put in, left out, replaced or exchanged with its neighbour leads from one text to the other
+-- one letter put in, left out or exchanged with its neighbour leads from one text to the other
 abbrev pub is_one_edit : List ℕ → List ℕ → Bool
 is_one_edit [] to = length to == 1
 is_one_edit (a ∷ from) [] = length from == 0
 is_one_edit (a ∷ from) (b ∷ to) =
     if a == b then is_one_edit from to else
-    (bytes_eq from to || (bytes_eq from (b ∷ to) || (bytes_eq (a ∷ from) to || are_exchanged (a ∷ from) (b ∷ to))))
+    (bytes_eq from (b ∷ to) || (bytes_eq (a ∷ from) to || are_exchanged (a ∷ from) (b ∷ to)))
 
 -- the same for any letter case
 abbrev pub is_near : List ℕ → List ℕ → Bool
@@ -47,24 +47,46 @@ ends_with_digit name = is_digit (slice_index name (length name - 1))
 abbrev pub is_unused : (List ℕ → Bool) → Piece → Bool
 is_unused is_named token = is_name token.kind && (not (ends_with_digit token.text) && not (is_named token.text))
 
--- the warning of an unused label, which stands on a line of names alone, or doesn't
-abbrev pub warning_by : Bool → Option (List ℕ) → Option WarningKind
-warning_by alone (Some word) = Some WarningKind.UnusedLabel
-warning_by true None = Some WarningKind.NamesAlone
-warning_by false None = None
+-- the warning of an unused label on a line of names alone
+abbrev pub alone_warning : Option (List ℕ) → WarningKind
+alone_warning (Some word) = WarningKind.UnusedLabel
+alone_warning None = WarningKind.NamesAlone
 
-abbrev pub label_warning : (List ℕ → Bool) → Bool → Piece → Option WarningKind
-label_warning is_named alone token = if is_unused is_named token then warning_by alone (near_word token.text) else None
+-- the warning of an unused label: where the warrior doesn't start at it although its name says so, and on a line of names alone
+abbrev pub unused_warning : Bool → Bool → List ℕ → Option WarningKind
+unused_warning late alone name = if late && is_start_name name then Some WarningKind.NoStart else if alone then Some (alone_warning (near_word name)) else None
+
+abbrev pub label_warning : (List ℕ → Bool) → Bool → Bool → Piece → Option WarningKind
+label_warning is_named late alone token = if is_unused is_named token then unused_warning late alone token.text else None
 
 abbrev pub or_else : Option WarningKind → Option WarningKind → Option WarningKind
 or_else None other = other
 or_else (Some kind) other = Some kind
 
 -- the first warning of these labels
-abbrev pub first_warning : (List ℕ → Bool) → Bool → List Piece → Option WarningKind
-first_warning is_named alone [] = None
-first_warning is_named alone (token ∷ tokens) = or_else (label_warning is_named alone token) (first_warning is_named alone tokens)
+abbrev pub first_warning : (List ℕ → Bool) → Bool → Bool → List Piece → Option WarningKind
+first_warning is_named late alone [] = None
+first_warning is_named late alone (token ∷ tokens) = or_else (label_warning is_named late alone token) (first_warning is_named late alone tokens)
 
--- the warning of a line's labels
-abbrev pub labels_warning : (List ℕ → Bool) → SourceLine → Option WarningKind
-labels_warning is_named line = first_warning is_named (not (is_some line.word)) (labels_in line.form line)
+-- the warning of a line's labels, which may be late for a start
+abbrev pub labels_warning : (List ℕ → Bool) → Bool → SourceLine → Option WarningKind
+labels_warning is_named late line = first_warning is_named late (not (is_some line.word)) (labels_in line.form line)
+
+-- ---- names of EQU lines
+
+-- the last name among these tokens, and this one if there is none
+abbrev pub last_name : Option Piece → List Piece → Option Piece
+last_name found [] = found
+last_name found (token ∷ tokens) = last_name (if is_name token.kind then Some token else found) tokens
+
+abbrev pub is_unused_name : (List ℕ → Bool) → Option Piece → Bool
+is_unused_name is_named None = false
+is_unused_name is_named (Some token) = is_unused is_named token
+
+abbrev pub is_unused_by : (List ℕ → Bool) → Option Word → List Piece → Bool
+is_unused_by is_named (Some Word.Equ) front = not (has_and front) && is_unused_name is_named (last_name None front)
+is_unused_by is_named _ front = false
+
+-- an EQU whose name no line names
+abbrev pub is_unused_equ : (List ℕ → Bool) → SourceLine → Bool
+is_unused_equ is_named line = is_unused_by is_named line.word line.front

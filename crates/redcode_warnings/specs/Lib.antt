@@ -4,7 +4,9 @@ pub mod Kind
 pub mod Read
 -- the names that lines name
 pub mod Named
--- labels that are probably misspelt operations
+-- where a warrior starts
+pub mod Start
+-- labels that are probably misspelt operations, and names that nothing uses
 pub mod Label
 -- names, authors and assertions
 pub mod Titles

@@ -1,7 +1,7 @@
 -- The warnings of a source: what its lines say although it may assemble.
 use Rattle.std.specs.Prelude.{ℕ, Bool, true, false, not, ◌||◌, nat_le, if◌then◌else◌, List, [], ◌∷◌, ◌++◌, length, take, Option, Some, None}
-use Rattle.{redcode_text.specs.declared.vocabulary.Word.Word, redcode_lines.specs.{Block.source_lines, Line.SourceLine, Source.live_lines}}
-use Rattle.redcode_warnings.specs.{declared.kind.WarningKind.WarningKind, Read.{around, lines_read, lines_after_end}, Named.{is_among, names_of}, Label.labels_warning, Titles.{has_form, is_assert, is_author, is_blank_text, is_changed, is_name, last_text}}
+use Rattle.redcode_lines.specs.{Block.source_lines, Line.SourceLine, Source.live_lines}
+use Rattle.redcode_warnings.specs.{declared.kind.WarningKind.WarningKind, Read.{around, lines_read, lines_after_end}, Named.{is_among, names_of}, Start.{Starts, is_instruction, is_late, is_overruled, starts_of}, Label.{is_unused_equ, labels_warning}, Titles.{has_form, is_assert, is_author, is_blank_text, is_changed, is_name, last_text}}
 
 -- a kind with the number of a line, or 0 if none is to blame
 abbrev pub Noted : Type 0
@@ -24,17 +24,20 @@ abbrev pub noted_some : Option WarningKind → ℕ → List Noted
 noted_some (Some kind) line = noted kind line ∷ []
 noted_some None line = []
 
--- the warnings of a line that is read: of its title, or of the first of its labels that has one
-abbrev pub noted_on : (List ℕ → Bool) → SourceLine → List Noted
-noted_on is_named line = noted_if (is_changed line.title) WarningKind.ChangedTitle line.number ++ noted_some (labels_warning is_named line) line.number
+-- the warning of a line's labels, and of the name of its EQU
+abbrev pub noted_names : (List ℕ → Bool) → Starts → SourceLine → List Noted
+noted_names is_named starts line =
+    noted_some (labels_warning is_named (is_late starts line.number) line) line.number ++ noted_if (is_unused_equ is_named line) WarningKind.UnusedEqu line.number
 
-abbrev pub noted_lines : (List ℕ → Bool) → List SourceLine → List Noted
-noted_lines is_named [] = []
-noted_lines is_named (line ∷ lines) = noted_on is_named line ++ noted_lines is_named lines
+-- the warnings of a line that is read: of its title, of its start, of the first of its labels that has one, and of its EQU
+abbrev pub noted_on : (List ℕ → Bool) → Starts → SourceLine → List Noted
+noted_on is_named starts line =
+    noted_if (is_changed line.title) WarningKind.ChangedTitle line.number ++ noted_if (is_overruled starts line) WarningKind.StartOverruled line.number
+    ++ noted_names is_named starts line
 
-abbrev pub is_instruction : Option Word → Bool
-is_instruction (Some (Word.Operation op)) = true
-is_instruction _ = false
+abbrev pub noted_lines : (List ℕ → Bool) → Starts → List SourceLine → List Noted
+noted_lines is_named starts [] = []
+noted_lines is_named starts (line ∷ lines) = noted_on is_named starts line ++ noted_lines is_named starts lines
 
 -- the number of the first instruction among these lines
 abbrev pub first_instruction : List SourceLine → Option ℕ
@@ -50,7 +53,7 @@ abbrev pub noted_unread : List SourceLine → List Noted
 noted_unread lines = noted_at WarningKind.CodeAfterEnd (first_instruction lines)
 
 abbrev pub noted_by : List SourceLine → List SourceLine → List Noted
-noted_by read unread = missing read ++ noted_lines (is_among (names_of read)) read ++ noted_unread unread
+noted_by read unread = missing read ++ noted_lines (is_among (names_of read)) (starts_of read) read ++ noted_unread unread
 
 abbrev pub noted_in : List SourceLine → List Noted
 noted_in lines = noted_by (lines_read (around 0 0) lines) (lines_after_end (around 0 0) lines)

@@ -3,9 +3,9 @@
 /// What is probably wrong with a source that may assemble.
 #[derive(Clone, Copy, Debug, PartialEq, Eq)]
 pub enum WarningKind {
-    /// A label that nothing uses, one letter from an operation's name or another reserved word.
+    /// A line of names alone, with a label that nothing uses, one slip from an operation's name or another reserved word.
     UnusedLabel,
-    /// A line of names alone, with a label that nothing uses.
+    /// A line of names alone, with another label that nothing uses.
     NamesAlone,
     /// A title that is cut, or has bytes that can't be printed.
     ChangedTitle,
@@ -17,6 +17,12 @@ pub enum WarningKind {
     NoAssert,
     /// An instruction after `END`.
     CodeAfterEnd,
+    /// A label for the start that nothing uses, where the warrior starts elsewhere.
+    NoStart,
+    /// A start that an `ORG` overrules.
+    StartOverruled,
+    /// An `EQU` whose name nothing uses.
+    UnusedEqu,
 }
 
 impl WarningKind {
@@ -35,6 +41,9 @@ impl WarningKind {
             WarningKind::NoAuthor => "NoAuthor",
             WarningKind::NoAssert => "NoAssert",
             WarningKind::CodeAfterEnd => "CodeAfterEnd",
+            WarningKind::NoStart => "NoStart",
+            WarningKind::StartOverruled => "StartOverruled",
+            WarningKind::UnusedEqu => "UnusedEqu",
         }
     }
 }

@@ -35,8 +35,8 @@ fn first_near(name: &[u8], words: &[&'static str]) -> Option<&'static str>
     None
 }
 
-/// Whether one letter put in, left out, replaced or exchanged with its neighbour leads from one text to the other, upper
-/// and lower case being one.
+/// Whether one letter put in, left out or exchanged with its neighbour leads from one text to the other, upper and lower
+/// case being one.
 fn is_one_edit(from: &[u8], to: &[u8]) -> bool
     ensures { result ≡ is_one_edit (map to_ascii_lowercase from.now) (map to_ascii_lowercase to.now) }
 {
@@ -47,10 +47,7 @@ fn is_one_edit(from: &[u8], to: &[u8]) -> bool
             if a.eq_ignore_ascii_case(b) {
                 return is_one_edit(behind_a, behind_b);
             }
-            is_word(behind_b, behind_a)
-                || is_word(to, behind_a)
-                || is_word(behind_b, from)
-                || are_exchanged(from, to)
+            is_word(to, behind_a) || is_word(behind_b, from) || are_exchanged(from, to)
         }
     }
 }

@@ -99,7 +99,7 @@ fn tell<A: Allocator + Copy>(
         line: finding.line,
         column,
         width,
-        sentence: sentence_of(alloc, finding)?,
+        sentence: sentence_of(alloc, source, finding)?,
     })?;
     Ok(())
 }

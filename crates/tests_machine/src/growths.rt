@@ -4,13 +4,22 @@ use crate::expecting::expect_same;
 use crate::making::{hill_of_two, settings_of};
 use crate::replays::replayed;
 use koth_hill::Hill;
-use koth_page::{Links, hill_page};
+use koth_page::{Address, Links, Sign, TITLE, hill_page};
 use koth_views::hill_view;
 use mars_core::{Arena, Outcome};
 use std::alloc::{AllocError, Global};
 use std::process::Abort;
 use tests_fixtures::{MOST_RUNS, Refusing, SMALL};
 use war_types::Settings;
+
+/// What the page of a hill says that the hill doesn't know.
+const SIGN: Sign<'static> = Sign {
+    title: TITLE,
+    address: Some(Address {
+        joined: b"a.example:80",
+        apart: b"a.example 80",
+    }),
+};
 
 /// Calls that take memory.
 #[derive(Clone, Copy)]
@@ -92,7 +101,7 @@ fn is_given(
         Call::Hill => counts_in(memory, hill.settings()),
         Call::Rows => rows_in(memory, hill),
         Call::Table => has_text(hill_view(memory, hill)),
-        Call::Page(links) => has_text(hill_page(memory, hill, links)),
+        Call::Page(links) => has_text(hill_page(memory, hill, &SIGN, links)),
         Call::Replay => turns_in(rt, calm, memory),
     }
 }

@@ -5,6 +5,7 @@ ghost use Rattle.koth_http.specs.declared.target.Page.TheVariants as pages;
 
 use crate::hills::{Fuse, Hill, Memory};
 use hill_store::{Reply, Store};
+use koth_hill::Hill as KothHill;
 use koth_http::Page;
 use koth_service::{Event, Host, LogWrite};
 use std::alloc::AllocError;
@@ -53,7 +54,7 @@ impl<'m> Host<Fuse<'m>, Memory<'m>> for Clerk<'m> {
         1_000_000
     }
 
-    /// The page of the hill says how many are on it. No round has one.
+    /// The page of the hill says how many are on it. There is no other.
     fn page(
         &self,
         store: &Hill<'m>,
@@ -64,7 +65,19 @@ impl<'m> Host<Fuse<'m>, Memory<'m>> for Clerk<'m> {
                 let text = format!(in self.memory; "{} here\n", store.hill().len())?;
                 Ok(Some(text.into_bytes()))
             }
-            Page::Round { .. } => Ok(None),
+            Page::Data | Page::Health | Page::Robots | Page::Icon | Page::Round { .. } => Ok(None),
+        }
+    }
+
+    fn tell_answer<E: LogWrite>(
+        &self,
+        peer: SocketAddr,
+        reply: Reply,
+        _hill: &KothHill<Memory<'m>>,
+        errors: &mut E,
+    ) {
+        if let Ok(line) = answered(self.memory, peer.port(), reply) {
+            let _ = errors.write(line.as_bytes());
         }
     }
 
@@ -82,7 +95,6 @@ fn line_of<'m>(
 ) -> Result<String<Memory<'m>>, AllocError> {
     match event {
         Event::Connected => told(memory, port, "connected\n"),
-        Event::Answered(reply) => answered(memory, port, reply),
         Event::Refused => told(memory, port, "refused\n"),
         Event::Ended(how) => format!(in memory; "{} {:?}\n", port, how),
         Event::Unasked(why) => format!(in memory; "{} {:?}\n", port, why),

@@ -76,7 +76,7 @@ const HILL: &str = "GET / HTTP/1.1\r\nHost: 127.0.0.1:80\r\n\r\n";
 
 /// The page of a hill without warriors, as the host writes it.
 const NOBODY: &str =
-    "HTTP/1.1 200 OK\r\nContent-Type: text/html; charset=us-ascii\r\nContent-Length: 7\r\nConnection: close\r\nCache-Control: no-store\r\nX-Content-Type-Options: nosniff\r\nContent-Security-Policy: default-src 'none'; style-src 'unsafe-inline'; script-src 'unsafe-inline'; frame-ancestors 'none'; base-uri 'none'; form-action 'none'\r\nReferrer-Policy: no-referrer\r\nCross-Origin-Resource-Policy: same-origin\r\n\r\n0 here\n";
+    "HTTP/1.1 200 OK\r\nContent-Type: text/html; charset=us-ascii\r\nContent-Length: 7\r\nConnection: close\r\nCache-Control: no-cache\r\nETag: \"b1605797adaa1f681a832e62ce5c864170e6cdd06a1ccd28305ced1112240b38\"\r\nX-Content-Type-Options: nosniff\r\nContent-Security-Policy: default-src 'none'; style-src 'unsafe-inline'; script-src 'unsafe-inline'; frame-ancestors 'none'; base-uri 'none'; form-action 'none'\r\nReferrer-Policy: no-referrer\r\nCross-Origin-Resource-Policy: same-origin\r\n\r\n0 here\n";
 
 /// An accept of a browser that fails is tried again after 100 milliseconds, though nothing else happens until then.
 static AN_ACCEPT_THAT_FAILS: [Cue; 7] = [
@@ -93,7 +93,7 @@ static AN_ACCEPT_THAT_FAILS_DUE: [Due; 2] = [Due::Heard(7, NOBODY), Due::Closed(
 
 /// A browser whose request isn't there in 2 seconds is disconnected if another waits, and so is one that hasn't taken
 /// its answer in 60, and one that never closes its connection. A third one waits for a slot, and a peer for none of
-/// them. The answer has a head of 392 bytes.
+/// them. The answer has a head of 466 bytes.
 static SLOW_BROWSERS: [Cue; 14] = [
     (0, Deed::Visits(7)),
     (0, Deed::Says(7, "GET / HT")),
@@ -120,7 +120,7 @@ static SLOW_BROWSERS_DUE: [Due; 9] = [
     Due::Heard(1, "BAD\n"),
     Due::Closed(1, 69_500),
     Due::Told("7 ", &["Displaced"]),
-    Due::Told("8 ", &["GET / HTTP/1.1: 200 399"]),
+    Due::Told("8 ", &["GET / HTTP/1.1: 200 473"]),
 ];
 
 #[test]

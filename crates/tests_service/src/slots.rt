@@ -7,7 +7,7 @@ use koth_service::Limits;
 const HILL: &str = "GET / HTTP/1.1\r\nHost: 127.0.0.1:80\r\n\r\n";
 
 /// The line of a request for the page of a hill without warriors, and of its answer.
-const SHOWN: &str = "GET / HTTP/1.1: 200 399";
+const SHOWN: &str = "GET / HTTP/1.1: 200 473";
 
 /// Two browsers that say nothing have both slots. One that waits is given that of the first one after a quarter of a
 /// second, and is answered; the second one keeps its slot.

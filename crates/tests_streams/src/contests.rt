@@ -30,7 +30,7 @@ static CONTESTS: [Contest; 6] = contests! {
         => "4 0 0 12 dat.growths\n0 0 4 4 stays.growths\n4 0 4 16\n", 0, false;
     small!("koth fight stays.growths field.growths"), "" => "2 0 0 6 field.growths/dat.red\n2 0 0 6\n", 0, false;
     small!("koth fight stays.growths dat.growths --each"), "" => "1 7 17 A A 2\n2 117649 29 B A 1\n", 0, false;
-    small!("koth replay stays.growths dat.growths --won -o growths.html"), "" => "", 0, false;
+    small!("koth replay stays.growths dat.growths --won -o growths.html"), "" => "", 0, true;
     "koth asm", "MOV 0, 1\nMVO 0, 1\n" => "REFUSED 2 BadOperation\n", 1, true;
 };
 

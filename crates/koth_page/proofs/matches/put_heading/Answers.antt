@@ -7,5 +7,5 @@ pub returns : goal.returns
 unfolding matches_heading
 returns g c =
     let ranks = flat_map (λ (p : ℕ × RowParts). rank_heading p.0 p.1) (enumerate_from 1 (rows_parts c.args.rows.now)) in
-    three_parts c.args.page.now.items (codes "<thead><tr><th>rank</th><th class=\"name\">warrior</th>") ranks (codes "</tr></thead>\n") c.extend_from_slice.new.self.items c.put_rank_headings.new.page.items c.extend_from_slice-2.new.self.items
+    three_parts c.args.page.now.items (codes "<thead><tr><th scope=\"col\">rank</th><th scope=\"col\" class=\"name\">warrior</th>") ranks (codes "</tr></thead>\n") c.extend_from_slice.new.self.items c.put_rank_headings.new.page.items c.extend_from_slice-2.new.self.items
     c.in_ok-extend_from_slice.ensures.items c.in_ok-put_rank_headings.ensures c.in_ok-extend_from_slice-2.ensures.items

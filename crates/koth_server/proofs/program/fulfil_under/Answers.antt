@@ -1,10 +1,10 @@
 -- Each command ends as its request says, and none of them ends as at a fault of the arguments.
 use Rattle.{std.proofs.Common.{ap, is_some, subst, sym}, war_types.specs.Settings.settings_of, koth_commands.specs.{Check.places_of, Report.manner_of, Streams.{From, is_input, streams}}}
 use Rattle.koth_keeping.specs.{Answers.{Answers, SaysLine}, Audit.SaysAudit, Copies.{MayReseed, SaysCopied}, Created.MayCreate, Migration.migrated_line}
-use Rattle.{koth_hills.specs.{Hills.{AnswersSource, SaysReply, SaysShown, TellsNote, sight_of}, Page.SaysPage, Trials.SaysTrial}, koth_server.specs.Run.viewed}
-use Rattle.koth_server.proofs.{Carried.{asm_no_word, check_no_word, fight_no_word, replay_no_word, request_ends}, Performed.{noted, of_source, plain}}
-use Rattle.koth_server.proofs.Statuses.{audited, copied, created, migrated, paged, replied, reseeded, shown, tried}
-use Rattle.koth_server.proofs.program.fulfil_under.Goals.{in-Create, in-Migrate, in-Submit, in-Try, in-Show, in-Page, in-Audit, in-Copy, in-Reseed}
+use Rattle.{koth_hills.specs.{Hills.{AnswersSource, SaysReply, SaysShown, TellsNote, sight_of}, Page.SaysPage, Trials.SaysTrial}, koth_server.specs.Run.viewed, koth_remote.specs.Remote.MayShowTo}
+use Rattle.koth_server.proofs.{Carried.{asm_no_word, check_no_word, fight_no_word, rank_no_word, replay_no_word, request_ends, trace_no_word}, Performed.{noted, of_source, plain}}
+use Rattle.koth_server.proofs.Statuses.{audited, copied, created, migrated, paged, replied, reseeded, shown, shown_to, tried}
+use Rattle.koth_server.proofs.program.fulfil_under.Goals.{in-Create, in-Migrate, in-Submit, in-Try, in-Show, in-ShowTo, in-Page, in-Audit, in-Copy, in-Reseed}
 use Rattle.koth_server.proofs.program.fulfil_under.Goals as goal
 
 pub returns-in-Asm : goal.returns-in-Asm
@@ -26,6 +26,13 @@ returns-in-Fight g c =
     let words = fight_no_word c.in-Fight.fighters c.viewed-view.result (settings_of c.args.settings) c.fight.result _ _ c.fight.ensures in
     request_ends c.args.settings c.args.view _ _ _ _ after c.in-Fight.is ends words
 
+pub returns-in-Rank : goal.returns-in-Rank
+returns-in-Rank g c =
+    let after = streams (g.I.Read.remaining c.rank.new.input) (g.O.Write.contents c.rank.new.output) (g.E.Write.contents c.rank.new.errors) in
+    let ends = rw c.viewed-view-in-Rank.ensures at c.rank.ensures in
+    let words = rank_no_word c.in-Rank.ranking c.viewed-view-in-Rank.result (settings_of c.args.settings) c.rank.result _ _ c.rank.ensures in
+    request_ends c.args.settings c.args.view _ _ _ _ after c.in-Rank.is ends words
+
 pub returns-in-Serve : goal.returns-in-Serve
 returns-in-Serve g c =
     let after = streams (g.I.Read.remaining c.args.input.now) (g.O.Write.contents c.serve.new.output) (g.E.Write.contents c.serve.new.errors) in
@@ -41,6 +48,17 @@ returns-in-Replay g c =
     let after = streams (g.I.Read.remaining c.replay.new.input) (g.O.Write.contents c.replay.new.output) (g.E.Write.contents c.replay.new.errors) in
     let words = replay_no_word c.in-Replay.watched.round (is_some c.in-Replay.watched.page) (settings_of c.args.settings) c.replay.result _ _ c.replay.ensures in
     request_ends c.args.settings c.args.view _ _ _ _ after c.in-Replay.is c.replay.ensures words
+
+pub returns-in-Trace : goal.returns-in-Trace
+returns-in-Trace g c =
+    let after = streams (g.I.Read.remaining c.trace.new.input) (g.O.Write.contents c.trace.new.output) (g.E.Write.contents c.trace.new.errors) in
+    let words = trace_no_word c.in-Trace.traced.round c.in-Trace.traced.last c.in-Trace.traced.form (settings_of c.args.settings) c.trace.result _ _ c.trace.ensures in
+    request_ends c.args.settings c.args.view _ _ _ _ after c.in-Trace.is c.trace.ensures words
+
+pub returns-in-SubmitTo : goal.returns-in-SubmitTo
+returns-in-SubmitTo g c =
+    let after = streams (g.I.Read.remaining c.submit_elsewhere.new.input) (g.O.Write.contents c.submit_elsewhere.new.output) (g.E.Write.contents c.submit_elsewhere.new.errors) in
+    request_ends c.args.settings c.args.view _ _ _ _ after c.in-SubmitTo.is tt c.submit_elsewhere.ensures
 
 pub returns : goal.returns
 returns g c =
@@ -83,7 +101,10 @@ returns g c =
           let asked = viewed w.in-Show.shown.view v in
           noted s v _ _ _ i j o p e n f done _ w.in-Show.is w.done-is c.deliver.ensures (Answers (SaysShown asked sight)) (shown asked sight)
           (subst (λ x. TellsNote e (g.E.Write.contents x)) (sym w.errors-is) w.tell_lost_header-in-Show.ensures) (λ ends. ends)
-          (subst (λ x. Answers (SaysShown x sight) w.perform_show-done.result) w.viewed.ensures w.perform_show-done.ensures)
+          (subst (λ x. Answers (SaysShown x sight) w.perform_show-done.result) w.viewed-in-Show.ensures w.perform_show-done.ensures)
+      | in-ShowTo w ↦
+          plain s v _ _ _ i j o p e n f done _ w.in-ShowTo.is w.done-is c.deliver.ensures MayShowTo shown_to
+          (ap (λ x. g.E.Write.contents x) w.errors-is) (λ ends. ends) w.perform_show_to-done.ensures
       | in-Page w ↦
           noted s v _ _ _ i j o p e n f done _ w.in-Page.is w.done-is c.deliver.ensures (Answers SaysPage) paged
           (subst (λ x. TellsNote e (g.E.Write.contents x)) (sym w.errors-is) w.tell_lost_header-in-Page.ensures) (λ ends. ends) w.perform_page-done.ensures

@@ -3,7 +3,7 @@ use Rattle.{std.proofs.Common.{◌≡◌, ℕ, List, Option, Some, subst}, koth_
 use Rattle.koth_service.proofs.answering.answer_visit.Goals as goal
 
 answered : (site : Site) (names : List (List ℕ)) (bytes : List ℕ) (found : Option Asked) (asked : Asked) (answer : List ℕ) → names ≡ site.names → found ≡ Some asked
-    → IsAsked names bytes found → FindsAsked names bytes found → IsAnswer site asked answer → AnswersBytes site bytes answer
+    → IsAsked names bytes found → FindsAsked names bytes found → IsAnswer site bytes asked answer → AnswersBytes site bytes answer
 answered site names bytes found asked answer same is said finds answers = (
   asked,
   subst (λ n. IsAsked n bytes (Some asked)) same (subst (λ f. IsAsked names bytes f) is said),

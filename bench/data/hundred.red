@@ -1,0 +1,107 @@
+;redcode-94
+;name Hundred
+;author bench/asm
+;assert CORESIZE == 8000
+step EQU 2*3+1
+ORG start
+l0 MOV.I l0+step, >l0-0 ; line 0
+l1 ADD.AB l7+step, >l5-1 ; line 1
+l2 DJN.F l14+step, >l10-2 ; line 2
+l3 SPL l21+step, >l15-3 ; line 3
+l4 MOV.I l28+step, >l20-4 ; line 4
+l5 ADD.AB l35+step, >l25-5 ; line 5
+l6 DJN.F l42+step, >l30-6 ; line 6
+l7 SPL l49+step, >l35-7 ; line 7
+l8 MOV.I l56+step, >l40-8 ; line 8
+l9 ADD.AB l63+step, >l45-9 ; line 9
+l10 DJN.F l70+step, >l50-10 ; line 10
+l11 SPL l77+step, >l55-11 ; line 11
+l12 MOV.I l84+step, >l60-12 ; line 12
+l13 ADD.AB l91+step, >l65-13 ; line 13
+l14 DJN.F l0+step, >l70-14 ; line 14
+l15 SPL l7+step, >l75-15 ; line 15
+l16 MOV.I l14+step, >l80-16 ; line 16
+l17 ADD.AB l21+step, >l85-17 ; line 17
+l18 DJN.F l28+step, >l90-18 ; line 18
+l19 SPL l35+step, >l95-19 ; line 19
+l20 MOV.I l42+step, >l2-20 ; line 20
+l21 ADD.AB l49+step, >l7-21 ; line 21
+l22 DJN.F l56+step, >l12-22 ; line 22
+l23 SPL l63+step, >l17-23 ; line 23
+l24 MOV.I l70+step, >l22-24 ; line 24
+l25 ADD.AB l77+step, >l27-25 ; line 25
+l26 DJN.F l84+step, >l32-26 ; line 26
+l27 SPL l91+step, >l37-27 ; line 27
+l28 MOV.I l0+step, >l42-28 ; line 28
+l29 ADD.AB l7+step, >l47-29 ; line 29
+l30 DJN.F l14+step, >l52-30 ; line 30
+l31 SPL l21+step, >l57-31 ; line 31
+l32 MOV.I l28+step, >l62-32 ; line 32
+l33 ADD.AB l35+step, >l67-33 ; line 33
+l34 DJN.F l42+step, >l72-34 ; line 34
+l35 SPL l49+step, >l77-35 ; line 35
+l36 MOV.I l56+step, >l82-36 ; line 36
+l37 ADD.AB l63+step, >l87-37 ; line 37
+l38 DJN.F l70+step, >l92-38 ; line 38
+l39 SPL l77+step, >l97-39 ; line 39
+l40 MOV.I l84+step, >l4-40 ; line 40
+l41 ADD.AB l91+step, >l9-41 ; line 41
+l42 DJN.F l0+step, >l14-42 ; line 42
+l43 SPL l7+step, >l19-43 ; line 43
+l44 MOV.I l14+step, >l24-44 ; line 44
+l45 ADD.AB l21+step, >l29-45 ; line 45
+l46 DJN.F l28+step, >l34-46 ; line 46
+l47 SPL l35+step, >l39-47 ; line 47
+l48 MOV.I l42+step, >l44-48 ; line 48
+l49 ADD.AB l49+step, >l49-49 ; line 49
+l50 DJN.F l56+step, >l54-50 ; line 50
+l51 SPL l63+step, >l59-51 ; line 51
+l52 MOV.I l70+step, >l64-52 ; line 52
+l53 ADD.AB l77+step, >l69-53 ; line 53
+l54 DJN.F l84+step, >l74-54 ; line 54
+l55 SPL l91+step, >l79-55 ; line 55
+l56 MOV.I l0+step, >l84-56 ; line 56
+l57 ADD.AB l7+step, >l89-57 ; line 57
+l58 DJN.F l14+step, >l94-58 ; line 58
+l59 SPL l21+step, >l1-59 ; line 59
+l60 MOV.I l28+step, >l6-60 ; line 60
+l61 ADD.AB l35+step, >l11-61 ; line 61
+l62 DJN.F l42+step, >l16-62 ; line 62
+l63 SPL l49+step, >l21-63 ; line 63
+l64 MOV.I l56+step, >l26-64 ; line 64
+l65 ADD.AB l63+step, >l31-65 ; line 65
+l66 DJN.F l70+step, >l36-66 ; line 66
+l67 SPL l77+step, >l41-67 ; line 67
+l68 MOV.I l84+step, >l46-68 ; line 68
+l69 ADD.AB l91+step, >l51-69 ; line 69
+l70 DJN.F l0+step, >l56-70 ; line 70
+l71 SPL l7+step, >l61-71 ; line 71
+l72 MOV.I l14+step, >l66-72 ; line 72
+l73 ADD.AB l21+step, >l71-73 ; line 73
+l74 DJN.F l28+step, >l76-74 ; line 74
+l75 SPL l35+step, >l81-75 ; line 75
+l76 MOV.I l42+step, >l86-76 ; line 76
+l77 ADD.AB l49+step, >l91-77 ; line 77
+l78 DJN.F l56+step, >l96-78 ; line 78
+l79 SPL l63+step, >l3-79 ; line 79
+l80 MOV.I l70+step, >l8-80 ; line 80
+l81 ADD.AB l77+step, >l13-81 ; line 81
+l82 DJN.F l84+step, >l18-82 ; line 82
+l83 SPL l91+step, >l23-83 ; line 83
+l84 MOV.I l0+step, >l28-84 ; line 84
+l85 ADD.AB l7+step, >l33-85 ; line 85
+l86 DJN.F l14+step, >l38-86 ; line 86
+l87 SPL l21+step, >l43-87 ; line 87
+l88 MOV.I l28+step, >l48-88 ; line 88
+l89 ADD.AB l35+step, >l53-89 ; line 89
+l90 DJN.F l42+step, >l58-90 ; line 90
+l91 SPL l49+step, >l63-91 ; line 91
+l92 MOV.I l56+step, >l68-92 ; line 92
+l93 ADD.AB l63+step, >l73-93 ; line 93
+l94 DJN.F l70+step, >l78-94 ; line 94
+l95 SPL l77+step, >l83-95 ; line 95
+l96 MOV.I l84+step, >l88-96 ; line 96
+l97 ADD.AB l91+step, >l93-97 ; line 97
+start JMP l0, <l1
+DAT #step, #0
+END start

@@ -1,0 +1,4 @@
+-- What a client sends.
+pub mod Sending
+-- What is answered.
+pub mod Coming

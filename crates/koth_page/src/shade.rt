@@ -1,0 +1,53 @@
+//! The shade of a cell: by how much one side is ahead.
+
+ghost use Rattle.std.specs.Prelude.{◌≡◌, ◌≤◌, ◌++◌, OnOk};
+ghost use Rattle.koth_page.specs.Shade.{quarter, shade};
+
+use koth_text::Piece::{Number, Text};
+use koth_text::{Tally, put_all};
+use std::alloc::{AllocError, Allocator};
+
+/// Puts the class of the cell of a match: `w1` to `w4` for more rounds won, `l1` to `l4` for more lost, and `e`.
+#[tactic(auto, unfolding(crate::specs::Shade::shade))]
+pub(crate) fn put_shade<A: Allocator>(
+    page: &mut Vec<u8, A>,
+    rounds: Tally,
+) -> Result<(), AllocError>
+    requires won { rounds.won ≤ 65535 }
+    requires lost { rounds.lost ≤ 65535 }
+    requires tied { rounds.tied ≤ 65535 }
+    ensures { OnOk result (page.new.items ≡ page.old.items ++ shade rounds) }
+{
+    let all = rounds.won + rounds.lost + rounds.tied;
+    if rounds.lost < rounds.won {
+        put_all(
+            page,
+            &[Text(b"w"), Number(quarter(rounds.won, rounds.lost, all))],
+        )
+    } else if rounds.won < rounds.lost {
+        put_all(
+            page,
+            &[Text(b"l"), Number(quarter(rounds.lost, rounds.won, all))],
+        )
+    } else {
+        page.extend_from_slice(b"e")
+    }
+}
+
+/// In which quarter of all rounds it lies by how many `one` is more than `other`, from 1 on.
+fn quarter(one: u64, other: u64, all: u64) -> u64
+    requires one { one ≤ 65535 }
+    requires other { other ≤ 65535 }
+    requires all { all ≤ 196605 }
+    ensures { result ≡ quarter one other all }
+{
+    if 3 * all + 4 * other < 4 * one {
+        4
+    } else if 2 * all + 4 * other < 4 * one {
+        3
+    } else if all + 4 * other < 4 * one {
+        2
+    } else {
+        1
+    }
+}

@@ -1,0 +1,2 @@
+mod Fought
+mod Ranked

@@ -1,0 +1,6 @@
+-- The matches of a field, each pair's once.
+pub mod Matches
+-- What is written of the field when all have fought.
+pub mod Table
+-- How the command ends.
+pub mod Rank

@@ -1,0 +1,2 @@
+-- What is answered of a hill elsewhere.
+pub mod Remote

@@ -1,0 +1,4 @@
+mod Delivered
+mod Numbers
+mod Paged
+mod Written
