@@ -37,7 +37,6 @@ def bound(process: int = 0, seconds: int = PATIENCE) -> None:
 
 
 def assemble(command: list[str], path: str, seconds: int = PATIENCE) -> Assembly:
-    """Runs a command on a source."""
     with open(path, "rb") as source, tempfile.TemporaryFile() as printed, tempfile.TemporaryFile() as errors:
         begin = time.perf_counter()
         child = subprocess.Popen(command, stdin=source, stdout=printed, stderr=errors,
@@ -76,7 +75,6 @@ def answered(service: Service, path: str) -> str | None:
 
 
 def empty_hill(koth: str, folder: str) -> str:
-    """An empty hill of the default settings in this folder."""
     return create(koth, f"{folder}/empty.hill")
 
 

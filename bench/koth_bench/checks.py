@@ -32,7 +32,6 @@ class Checks:
         return bool(holds)
 
     def same(self, found: object, expected: object, what: str) -> bool:
-        """Counts whether `found` is `expected`."""
         return self.that(found == expected, f"{what}: {found!r}, and not {expected!r}")
 
     def fault(self, what: str, fault: str) -> bool:
@@ -52,7 +51,6 @@ class Checks:
             self.fault(what, repr(failure))
 
     def trials(self, trials: typing.Mapping[str, typing.Callable[..., str]], *given: object) -> None:
-        """Makes these trials with what is given."""
         for what, trial in trials.items():
             self.trial(what, functools.partial(trial, *given))
 

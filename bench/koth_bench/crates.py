@@ -11,7 +11,6 @@ def crates() -> dict[str, list[str]]:
 
 
 def wings() -> dict[str, list[str]]:
-    """The crates of each wing, by the headings of crates.txt."""
     found: dict[str, list[str]] = {}
     for line in contents(f"{ROOT}/crates.txt").decode().splitlines()[1:]:
         if line.startswith("# "):

@@ -30,7 +30,6 @@ def text_of(path: str) -> str:
 
 
 def files_below(folder: str, ending: str) -> list[str]:
-    """The files of a folder with this ending, in order."""
     return [f"{at}/{it}" for at, _, names in sorted(os.walk(folder)) for it in sorted(names) if it.endswith(ending)]
 
 
@@ -40,7 +39,6 @@ def head_of_holder(lines: list[str], at: int, indent: int) -> re.Match[str] | No
 
 
 def past_parameters(head: str) -> tuple[str, str]:
-    """The parameters of an `impl`, if it has any, and the head after them."""
     depth, at = 0, 0
     for at, letter in enumerate(head):
         depth += (letter == "<") - (letter == ">")
@@ -96,7 +94,6 @@ def functions_in(path: str, text: str, homes: dict[str, list[str]]) -> list[Func
 
 
 def function_at(functions: list[Function], path: str, line: int) -> Function | None:
-    """The innermost function that has this line of this file."""
     return next((it for it in reversed(functions) if it.file == path and it.first <= line <= it.last), None)
 
 

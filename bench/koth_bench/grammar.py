@@ -20,7 +20,6 @@ class Grammar:
         self.rules = {rule: ways_of(found) for rule, found in unread(name).items()}
 
     def make(self, chance: random.Random, rule: str, depth: int = 0) -> bytes:
-        """A text by this rule."""
         ways, weights = self.rules[rule]
         text = chance.choices(ways, weights)[0] if depth < DEEPEST else ways[0]
 

@@ -43,7 +43,6 @@ class Maker:
         return bytes(text)
 
     def image(self, good: bytes) -> bytes:
-        """A hill's file with some of it turned."""
         image = bytearray(good)
         sectors = len(good) // SECTOR
         for _ in range(self.random.choice([1, 1, 1, 2, 3, 8])):

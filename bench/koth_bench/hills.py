@@ -21,7 +21,6 @@ Counts = tuple[int, int]  # rounds that a warrior won, and ties
 
 
 def warriors() -> list[str]:
-    """The paths of the repository's warriors."""
     return [f"{ROOT}/warriors/{name}" for name in sorted(os.listdir(f"{ROOT}/warriors")) if name.endswith(".red")]
 
 

@@ -21,7 +21,6 @@ class Warrior(typing.NamedTuple):
 
 
 def stored(text: str) -> bytes:
-    """The eight bytes of an instruction."""
     found = INSTRUCTION.fullmatch(text)
     assert found, text
     operation, modifier, a_mode, a, b_mode, b = found.groups()
@@ -30,7 +29,6 @@ def stored(text: str) -> bytes:
 
 
 def slot(warrior: Warrior, results: Results | None = None, is_old: bool = False) -> bytes:
-    """The sectors of a warrior."""
     wins = [count for place in range(21) for count in (results or {}).get(place, (0, 0))]
     titles = warrior.name.encode(), warrior.author.encode()
     fields = struct.pack(">HH48s48s42H", len(warrior.code), warrior.start, *titles, *wins)
@@ -39,7 +37,6 @@ def slot(warrior: Warrior, results: Results | None = None, is_old: bool = False)
 
 
 def header(settings: Settings, generation: int, counter: int, entries: list[Entry], is_old: bool = False) -> bytes:
-    """The sector of a header."""
     *others, read, write = settings.values()
     limits = [0 if it == settings["core"] else it for it in (read, write)]
     name = b"KOTHHIL1" if is_old else b"KOTHHIL2"

@@ -84,7 +84,6 @@ async def plain(run: Run, number: int) -> None:
 
 
 async def submitting(run: Run, number: int) -> None:
-    """Submits one warrior after another."""
     reader, writer = await run.connect()
     while run.goes_on():
         number += SUBMITTERS
@@ -108,7 +107,6 @@ async def page_of(run: Run, path: bytes) -> bytes:
 
 
 async def reading(run: Run, number: int) -> None:
-    """Reads the page of the hill now and then."""
     chance = random.Random(-number)
     while run.goes_on():
         await asyncio.sleep(chance.uniform(*run.pause))
@@ -206,7 +204,6 @@ async def deaf(run: Run, _number: int) -> None:
 
 
 async def endless(run: Run, _number: int) -> None:
-    """Sends a line without end."""
     _, writer = await run.connect()
     for _ in range(512):
         writer.write(b"x" * 65536)
@@ -233,7 +230,6 @@ async def hostile(run: Run, number: int) -> None:
 
 
 async def weigh(run: Run) -> None:
-    """Notes the resident size of the service each second, in KiB."""
     while run.goes_on():
         run.sizes.append(kib_of(run.service.process.pid, "VmRSS"))
         await asyncio.sleep(1)
@@ -265,7 +261,6 @@ def load(run: Run, kinds: list[Kind]) -> None:
 
 
 def summary(what: str, seconds: list[float]) -> tuple[float, float]:
-    """Prints these waits, and returns the 99th of a hundred and the longest."""
     if not seconds:
         say(f"{what}: none")
         return 0, 0

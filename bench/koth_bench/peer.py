@@ -68,11 +68,9 @@ class Peer:
         return found
 
     def read_to(self, end: bytes, seconds: float | None = None) -> bytes:
-        """What comes up to these bytes."""
         return self.read(lambda found: found.endswith(end), seconds)
 
     def read_lines(self, count: int) -> bytes:
-        """This number of lines."""
         return self.read(lambda found: found.count(b"\n") >= count)
 
     def read_bytes(self, count: int) -> bytes:
@@ -96,7 +94,6 @@ class Peer:
         return self.read(lambda found: found == b".\n" or found.endswith(b"\n.\n"), seconds)
 
     def finish(self) -> typing.Self:
-        """Ends what this side sends."""
         self.socket.shutdown(socket.SHUT_WR)
         return self
 

@@ -4,6 +4,8 @@ import os
 import re
 import subprocess
 
+from .checks import Checks, say
+
 SEED, DISTANCE = 1, 100  # usual settings: pMARS takes the position of the first round, which is their sum
 ABSENT = "there is no pMARS, so nothing was compared with it"
 CODE = re.compile(r"(START)?\s*([A-Z]{3}\.[ABFXI]{1,2}\s+.\s*-?\d+,\s*.\s*-?\d+)\s*$")
@@ -17,8 +19,14 @@ def named(path: str | None) -> str | None:
     return os.path.abspath(found) if found else None
 
 
+def absent(checks: Checks, theirs: object) -> None:
+    """Says that there is no pMARS, and counts it as not tried, if so."""
+    if not theirs:
+        say(ABSENT)
+        checks.not_tried += 1
+
+
 def fight(program: str, rounds: int, first: str, second: str, *more: str, position: int = SEED + DISTANCE) -> list[str]:
-    """The command that fights two sources."""
     return [program, "-b", "-k", *more, "-r", str(rounds), "-F", str(position), first, second]
 
 
@@ -35,7 +43,6 @@ def counts_of_koth(output: str) -> list[Counts]:
 
 
 def load_text(listing: str) -> list[str]:
-    """The load text of a warrior that pMARS lists."""
     code = [found for found in map(CODE.match, listing.splitlines()) if found]
     start = max((at for at, found in enumerate(code) if found[1]), default=0)
     return [f"ORG {start}", *(found[2] for found in code), "END"]

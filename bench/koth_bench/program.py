@@ -47,7 +47,6 @@ def arguments(text: str | None, places: dict[str, type] | None = None, koth: typ
 
 
 def write(path: str, content: str | bytes) -> str:
-    """Writes a file of this text or of these bytes, and returns its path."""
     os.makedirs(os.path.dirname(path) or ".", exist_ok=True)
     with open(path, "wb") as file:
         file.write(content.encode() if isinstance(content, str) else content)
@@ -60,5 +59,4 @@ def contents(path: str) -> bytes:
 
 
 def data(name: str) -> str:
-    """A file of bench/data."""
     return contents(f"{ROOT}/bench/data/{name}").decode()

@@ -32,7 +32,6 @@ def first_names(count: int) -> list[str]:
 
 
 def name_of(number: int) -> str:
-    """The name with this number, from 1 on."""
     return first_names(-(-number // 1024) * 1024)[number - 1]
 
 

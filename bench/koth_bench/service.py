@@ -46,11 +46,9 @@ class Service:
             self.end()
 
     def connect(self, address: str = "127.0.0.1", patience: float = PATIENCE) -> Peer:
-        """A peer at the port for sessions."""
         return Peer(self.port, address, patience)
 
     def browse(self, address: str = "127.0.0.1") -> Peer:
-        """A browser at the port for pages."""
         return Peer(self.pages, address)
 
     def answers(self, sent: bytes) -> bytes:
@@ -62,7 +60,6 @@ class Service:
         return self.answers(b"SHOW\nQUIT\n")
 
     def page(self, path: str = "", method: str = "GET") -> tuple[int, bytes]:
-        """The status of a page, and its text."""
         try:
             asked = urllib.request.Request(self.address + path, method=method)
             with urllib.request.urlopen(asked, timeout=PATIENCE) as answer:
@@ -77,7 +74,6 @@ class Service:
         self.process.send_signal(signal.SIGCONT)
 
     def end(self) -> str:
-        """Ends it, and returns its log."""
         self.process.terminate()
         self.go_on()
         return self.wait()

@@ -112,7 +112,6 @@ class Maker:
         return self.titled(body, b"REFUSED %d %b" % (int(line) + TITLE_LINES if int(line) else 0, kind))
 
     def connection(self, kind: str) -> Connection:
-        """A connection of this kind."""
         chance = self.random
         if kind == "plain":
             return Connection(kind, [self.source(), SHOW])
@@ -233,7 +232,6 @@ class Peer(peer.Peer):
         self.read_answers(place + 1)
 
     def talk(self) -> None:
-        """Does what it is to do."""
         it = self.connection
         with self.socket:
             if it.kind in ("plain", "slow"):
@@ -279,13 +277,11 @@ class Program:
         self.lock, self.odd = threading.Lock(), 0
 
     def tell(self, what: str, connection: Connection | None = None) -> None:
-        """Tells of something that isn't as it should be."""
         with self.lock:
             self.odd += 1
             say(f"connection {connection.number}, {connection.kind}: {what}" if connection else what)
 
     def expect(self, expected: str, *words: str) -> None:
-        """Runs a command that has to write this."""
         if (said := self.run(*words)) != expected.encode():
             self.tell(f"{words[0]} says {said!r}")
 
@@ -296,7 +292,6 @@ class Program:
         return typing.cast(bytes, done.output)
 
     def serve(self, hill: str, connections: int) -> Service:
-        """The service with its limit of memory."""
         limited = ["sh", "-c", 'ulimit -v "$0" && exec "$@"', str(self.memory)]
         flags = ("--quiet", "--peers", "1", "--connections", str(connections))
         return Service(self.path, hill, *flags, folder=self.folder, before=limited, memory=self.memory)
@@ -342,7 +337,6 @@ class Load:
             self.look_at(found.connection)
 
     def look_at(self, it: Connection) -> None:
-        """Looks at the form of what was answered."""
         it.answers, wrong = answers_in(it.commands, it.transcript)
         count = f"{len(it.answers)} of {len(it.commands)}"
         reads_all = it.way not in ("close", "reset")
@@ -381,7 +375,6 @@ class Load:
             self.program.tell(f"the service has grown by {grown[0]} KiB, and the most that it was by {grown[1]} KiB")
 
     def report(self, stored: int | str, seconds: float) -> None:
-        """Prints what was counted."""
         begun = self.connections[: self.begun]
         kinds = collections.Counter(it.kind for it in begun)
         words = collections.Counter(answer.split()[0].decode() for it in begun for answer in it.answers)

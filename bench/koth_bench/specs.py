@@ -4,7 +4,8 @@ import os
 import re
 import typing
 
-from .program import ROOT
+from .crates import crates
+from .program import ROOT, contents
 
 DECLARED = re.compile(r"(?:(?:abbrev|unfoldable) )*(?:pub )?(?:(?:record|data) )?([^\s(){}:,]+)\s*(?:[({].*)?:", re.U)
 WORD = re.compile(r"[^\s(){}\[\],.;`]+")
@@ -78,3 +79,33 @@ def blocks_of(text: str) -> dict[str, tuple[int, str]]:
         if name:
             found[name] = found[name][0], found[name][1] + line + "\n"
     return found
+
+
+class Definitions:
+    """All definitions of the specs: the texts of their modules, what each module has of its own, and the file and the
+    line of each."""
+
+    def __init__(self) -> None:
+        self.texts: dict[tuple[str, str], str] = {}
+        self.places: dict[Key, tuple[str, int]] = {}
+        self.own: dict[tuple[str, str], dict[str, tuple[int, str]]] = {}
+        for crate in crates():
+            for path in files_of(crate, "specs", ".antt"):
+                module = os.path.relpath(path, f"{ROOT}/crates/{crate}/specs").removesuffix(".antt").replace("/", ".")
+                self.texts[crate, module] = text = contents(path).decode()
+                self.own[crate, module] = own = blocks_of(text)
+                self.places.update({(crate, module, name): (path, number) for name, (number, _) in own.items()})
+        self.brought = {module: brought(text) for module, text in self.texts.items()}
+
+    def said(self, key: Key) -> str:
+        return self.own[key[:2]][key[2]][1]
+
+    def named_by(self, key: Key) -> list[Key]:
+        """The definitions that this one names, as it names them."""
+        meant = {**self.brought[key[:2]], **{it: {(*key[:2], it)} for it in self.own[key[:2]]}}
+        return named_in(words(self.said(key)), meant)
+
+
+def named_in(found: set[str], meant: Meant) -> list[Key]:
+    """Of what names stand for all that these words name."""
+    return [key for name, keys in meant.items() if is_named(name, found) for key in keys]

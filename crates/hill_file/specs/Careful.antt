@@ -106,8 +106,10 @@ Goes happened IsSo old new = (start : Opening) (log : List Done) → HasDone hap
     → (done : List Done) × IsSo start log done × HasDone happened start new (done ++ log)
 
 -- this content was read, or nothing was done
-abbrev pub IsRead : {T E : Type 0} → ℕ → List ℕ → Result T E → Opening → List Done → List Done → Type 0
-IsRead n content result start log done = MatchResult result (λ _. done ≡ Done.Read n content ∷ []) (λ _. done ≡ [])
+abbrev pub IsRead : {T E : Type 0} → ℕ → List ℕ → Result T E → Opening → List Done → List Done
+    → Type 0
+IsRead n content result start log done = MatchResult result (λ _. done ≡ Done.Read n content ∷ [])
+    (λ _. done ≡ [])
 
 -- nothing was done, or one look that came out in whatever way
 abbrev pub IsLookAtMost : List Done → Type 0

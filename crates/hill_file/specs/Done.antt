@@ -27,12 +27,14 @@ Looks happened old result new =
     MatchResult result (λ headers. Adds happened (Done.Looked headers) old new) (λ _. Stays happened old new)
 
 -- the content that was read is added
-abbrev pub Reads : {F T E : Type 0} → (F → List Done → Type 0) → ℕ → F → List ℕ → Result T E → F → Type 0
+abbrev pub Reads : {F T E : Type 0} → (F → List Done → Type 0) → ℕ → F → List ℕ → Result T E → F
+    → Type 0
 Reads happened n old content result new =
     MatchResult result (λ _. Adds happened (Done.Read n content) old new) (λ _. Stays happened old new)
 
 -- the content that was written is added, or that it may have been
-abbrev pub Writes : {F T E : Type 0} → (F → List Done → Type 0) → ℕ → F → List ℕ → Result T E → F → Type 0
+abbrev pub Writes : {F T E : Type 0} → (F → List Done → Type 0) → ℕ → F → List ℕ → Result T E → F
+    → Type 0
 Writes happened n old content result new =
     MatchResult result (λ _. Adds happened (Done.Wrote n content) old new)
     (λ _. Adds happened (Done.Tried n content) old new)
@@ -44,4 +46,5 @@ Syncs happened old result new =
 
 -- a sync of the name is added
 abbrev pub Names : {F T E : Type 0} → (F → List Done → Type 0) → F → Result T E → F → Type 0
-Names happened old result new = MatchResult result (λ _. Adds happened Done.Named old new) (λ _. Stays happened old new)
+Names happened old result new = MatchResult result (λ _. Adds happened Done.Named old new)
+    (λ _. Stays happened old new)

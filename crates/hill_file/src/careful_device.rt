@@ -1,4 +1,5 @@
-//! The device that looks at the headers before it writes, and believes no sync after one that failed. It has the file's name reach the disk.
+//! The device that looks at the headers before it writes, and believes no sync after one that failed. It has the file's
+//! name reach the disk.
 
 ghost use Rattle.std.specs.Prelude.{◌≡◌, ◌⊎◌, ⊤, ◌++◌, true, false, [], ◌∷◌, IfOk, MatchResult, OnOk};
 ghost use Rattle.hill_file.specs.Careful.{careful_facts, EachWasWritten, Goes, HasDone, IsAsRead, IsCounted, IsLook, IsNaming, IsPut, IsRead, IsSync, Settles, WritesNone, opening};
@@ -11,8 +12,8 @@ use sector_disk::{Device, Fault};
 ///
 /// It knows both headers as they were when it was opened, or as it wrote them since. Before each write and after each
 /// sync it looks whether the file has them and each sector. If not, the call is a fault, and a write writes nothing.
-/// After a sync that failed, and when it was opened in doubt, the next one first writes each sector again as it reads it. If it was opened in
-/// doubt, none is answered `Ok` before the file's name was synced.
+/// After a sync that failed, and when it was opened in doubt, the next one first writes each sector again as it reads
+/// it. If it was opened in doubt, none is answered `Ok` before the file's name was synced.
 #[derive(Drop)]
 pub struct CarefulDevice<F> {
     file: F,
@@ -25,15 +26,17 @@ pub struct CarefulDevice<F> {
 }
 
 impl<F: SectorFile + Drop> CarefulDevice<F> {
-    /// The device over this file. It has counted no fault. `Fault` if the file's length or its headers can't be read. If it has fewer than
-    /// two sectors, it has no headers, and the device writes and syncs nothing.
+    /// The device over this file. It has counted no fault. `Fault` if the file's length or its headers can't be read.
+    /// If it has fewer than two sectors, it has no headers, and the device writes and syncs nothing.
     ///
     /// In `doubt` the device doesn't know whether an earlier sync of the file failed, nor whether its name was synced.
     pub fn over(file: F, doubt: bool) -> Result<CarefulDevice<F>, Fault>
         ensures faults { IfOk result (λ device. device.faults ≡ 0) }
         ensures settled { IfOk result (λ device. device.settled ≡ device.known) }
         ensures doubt { IfOk result (λ device. device.doubt ≡ doubt) }
-        ensures begins { F.happened file [] → IfOk result (λ device. HasDone F.happened (opening device.known doubt) device []
+        ensures named { doubt ≡ false → IfOk result (λ device. device.named ≡ true) }
+        ensures begins { F.happened file [] → IfOk result (λ device.
+            HasDone F.happened (opening device.known doubt) device []
             ⊎ HasDone F.happened (opening device.known doubt) device (Done.Looked device.known ∷ [])) }
     {
         let mut file = file;
@@ -121,8 +124,10 @@ impl<F: SectorFile> CarefulDevice<F> {
         ensures settled { self.new.settled ≡ self.old.settled }
         ensures named { self.new.named ≡ self.old.named }
         ensures goes { Goes F.happened (λ start log done. IsAsRead done
-            × MatchResult result (λ _. (self.new.doubt ≡ false) ⊎ EachWasWritten self.new.sectors (done ++ log)) (λ _. ⊤)) self.old self.new }
-        ensures quiet { self.old.doubt ≡ false → (self.new.doubt ≡ false) × Goes F.happened (λ start log done. done ≡ []) self.old self.new }
+            × MatchResult result (λ _. (self.new.doubt ≡ false)
+            ⊎ EachWasWritten self.new.sectors (done ++ log)) (λ _. ⊤)) self.old self.new }
+        ensures quiet { self.old.doubt ≡ false → (self.new.doubt ≡ false)
+            × Goes F.happened (λ start log done. done ≡ []) self.old self.new }
     {
         if self.doubt { self.put_all() } else { Ok(()) }
     }
@@ -163,8 +168,10 @@ impl<F: SectorFile> CarefulDevice<F> {
         ensures settled { self.new.settled ≡ self.old.settled }
         ensures named { OnOk result (self.new.named ≡ true) }
         ensures goes { Goes F.happened (λ start log done. IsAsRead done
-            × MatchResult result (λ _. (self.new.doubt ≡ false) ⊎ EachWasWritten self.new.sectors (done ++ log)) (λ _. ⊤)) self.old self.new }
-        ensures quiet { self.old.doubt ≡ false → (self.new.doubt ≡ false) × Goes F.happened IsNaming self.old self.new }
+            × MatchResult result (λ _. (self.new.doubt ≡ false)
+            ⊎ EachWasWritten self.new.sectors (done ++ log)) (λ _. ⊤)) self.old self.new }
+        ensures quiet { self.old.doubt ≡ false
+            → (self.new.doubt ≡ false) × Goes F.happened IsNaming self.old self.new }
     {
         self.freshen()?;
         self.keep_name()
@@ -176,7 +183,8 @@ impl<F: SectorFile> CarefulDevice<F> {
         ensures faults { self.new.faults ≡ self.old.faults }
         ensures settled { self.new.settled ≡ self.old.settled }
         ensures goes { Goes F.happened (IsSync self.old.sectors result) self.old self.new }
-        ensures quiet { self.old.doubt ≡ false → Goes F.happened (λ start log done. WritesNone done) self.old self.new }
+        ensures quiet { self.old.doubt ≡ false
+            → Goes F.happened (λ start log done. WritesNone done) self.old self.new }
     {
         self.prepare()?;
         self.settle()?;
@@ -226,9 +234,11 @@ impl<F: SectorFile> Device for CarefulDevice<F> {
 
     fn sync(&mut self) -> Result<(), Fault>
         ensures served { IsServed careful_facts self.old self.new result }
-        ensures settled { MatchResult result (λ _. self.new.settled ≡ self.new.known) (λ _. self.new.settled ≡ self.old.settled) }
+        ensures settled { MatchResult result (λ _. self.new.settled ≡ self.new.known)
+            (λ _. self.new.settled ≡ self.old.settled) }
         ensures goes { Goes F.happened (IsSync self.old.sectors result) self.old self.new }
-        ensures quiet { self.old.doubt ≡ false → Goes F.happened (λ start log done. WritesNone done) self.old self.new }
+        ensures quiet { self.old.doubt ≡ false
+            → Goes F.happened (λ start log done. WritesNone done) self.old self.new }
     {
         let answer = self.sync_whole();
         if answer.is_ok() {

@@ -29,12 +29,12 @@ pub enum Existing {
     Overwritten,
 }
 
-/// A careful device over the file at a path: the n-th 512 bytes of the file are sector n. It keeps the file's lock, if it took it, until it is
-/// dropped.
+/// A careful device over the file at a path: the n-th 512 bytes of the file are sector n. It keeps the file's lock, if
+/// it took it, until it is dropped.
 ///
 /// It looks before each write and after each sync: the path has to lead to the file that is open still. If it
-/// doesn't, or if the system doesn't say, the call is a fault. So a hill whose file was removed, replaced, cut or written by another program
-/// is never said to be synced, and nothing is written over what was copied in.
+/// doesn't, or if the system doesn't say, the call is a fault. So a hill whose file was removed, replaced, cut or
+/// written by another program is never said to be synced, and nothing is written over what was copied in.
 pub type HillFile<'f, R> = CarefulDevice<PlacedFile<'f, R>>;
 
 impl<'f, R: Files> CarefulDevice<PlacedFile<'f, R>>
@@ -43,13 +43,13 @@ where
 {
     /// The device over the file at this path, which has to be there. It has counted no fault.
     ///
-    /// It is in doubt if the file holds a hill and may be written. Then its first sync that is answered `Ok` synced the folder of the file, too,
-    /// and if the path is a link, that is the folder of the file itself.
+    /// It is in doubt if the file holds a hill and may be written. Then its first sync that is answered `Ok` synced the
+    /// folder of the file, too, and if the path is a link, that is the folder of the file itself.
     ///
-    /// `Locked` if `sharing` isn't `Shared` and another program holds the lock. `Memory` also if there is no memory for the name of the
-    /// folder. `Failed` with `NotFound` if there is no file, with
-    /// `StaleNetworkFileHandle` if there is another by the time that it is locked, with `Other` if its headers can't be read, and else with
-    /// the system's reason, as for a folder, or if that of a file in doubt can't be opened. Never `Occupied`.
+    /// `Locked` if `sharing` isn't `Shared` and another program holds the lock. `Memory` also if there is no memory for
+    /// the name of the folder. `Failed` with `NotFound` if there is no file, with `StaleNetworkFileHandle` if there is
+    /// another by the time that it is locked, with `Other` if its headers can't be read, and else with the system's
+    /// reason, as for a folder, or if that of a file in doubt can't be opened. Never `Occupied`.
     pub fn open<A: Allocator>(
         rt: &'f R,
         alloc: A,
@@ -80,17 +80,18 @@ where
         careful_over(file, doubt, 0)
     }
 
-    /// A device of at least `sectors` sectors, which all hold zeros, over the file at this path, locked for this program alone. It has
-    /// counted no fault.
+    /// A device of at least `sectors` sectors, which all hold zeros, over the file at this path, locked for this
+    /// program alone. It has counted no fault.
     ///
-    /// If there is no file, one is created that only its owner may read and write. A longer file of zeros is not shortened. The zeros have
-    /// been written. They and the file's name have reached the disk, also if an earlier call that made the file was cut short. If the path
-    /// is a link, that is the name in the folder of the file itself.
+    /// If there is no file, one is created that only its owner may read and write. A longer file of zeros is not
+    /// shortened. The zeros have been written. They and the file's name have reached the disk, also if an earlier call
+    /// that made the file was cut short. If the path is a link, that is the name in the folder of the file itself.
     ///
-    /// `Locked` if another program holds the lock, and `Occupied` if `existing` is `Kept` and one byte of the file isn't zero: then the
-    /// file is as it was. `Failed` as `open` says, with the system's reason if the file can't be created, read, written or synced, as with
-    /// `StorageFull`, with `InvalidInput` if the path leads to what is no file, as a pipe, and with `ResourceBusy` if the file grows while
-    /// it is read. After a failed write, what was written of the zeros stays.
+    /// `Locked` if another program holds the lock, and `Occupied` if `existing` is `Kept` and one byte of the file
+    /// isn't zero: then the file is as it was. `Failed` as `open` says, with the system's reason if the file can't be
+    /// created, read, written or synced, as with `StorageFull`, with `InvalidInput` if the path leads to what is no
+    /// file, as a pipe, and with `ResourceBusy` if the file grows while it is read. After a failed write, what was
+    /// written of the zeros stays.
     pub fn make<A: Allocator>(
         rt: &'f R,
         alloc: A,
@@ -119,13 +120,14 @@ where
         device_over(file, sectors)
     }
 
-    /// A device of at least `sectors` sectors, which all hold zeros, over a new file at this path, locked for this program alone. It has
-    /// counted no fault. Only its owner may read and write the file. The zeros have reached the disk.
+    /// A device of at least `sectors` sectors, which all hold zeros, over a new file at this path, locked for this
+    /// program alone. It has counted no fault. Only its owner may read and write the file. The zeros have reached the
+    /// disk.
     ///
-    /// `Failed` with `AlreadyExists` if there is something at this path, a link too, and then nothing is changed. `Failed` as `open` says,
-    /// with `Unsupported` if the lock is granted to another open as well, and with the system's reason if the file can't be created,
-    /// written or synced, as with `StorageFull`. After each of these faults the file is removed, if the system lets it be. Never
-    /// `Occupied`.
+    /// `Failed` with `AlreadyExists` if there is something at this path, a link too, and then nothing is changed.
+    /// `Failed` as `open` says, with `Unsupported` if the lock is granted to another open as well, and with the
+    /// system's reason if the file can't be created, written or synced, as with `StorageFull`. After each of these
+    /// faults the file is removed, if the system lets it be. Never `Occupied`.
     pub fn make_new(rt: &'f R, path: &'f str, sectors: u32) -> Result<HillFile<'f, R>, OpenFault>
         ensures enough { IfOk result (λ hill. sectors ≤ hill.sectors) }
         ensures faults { IfOk result (λ hill. hill.faults ≡ 0) }
@@ -171,7 +173,8 @@ where
     device_over(file, sectors)
 }
 
-/// The device over this file, in doubt if the file holds a hill that may be changed. Its faults are those of `may_hold_a_hill` and `careful_over`.
+/// The device over this file, in doubt if the file holds a hill that may be changed. Its faults are those of
+/// `may_hold_a_hill` and `careful_over`.
 fn device_over<'f, R: Files>(
     file: PlacedFile<'f, R>,
     least: u32,
@@ -187,8 +190,8 @@ where
     careful_over(file, doubt, least)
 }
 
-/// Whether this file holds a hill that may be changed. `Failed` with `StaleNetworkFileHandle` if the path leads elsewhere by now, and with the
-/// system's reason if its headers can't be read.
+/// Whether this file holds a hill that may be changed. `Failed` with `StaleNetworkFileHandle` if the path leads
+/// elsewhere by now, and with the system's reason if its headers can't be read.
 fn may_hold_a_hill<R: Files>(file: &mut PlacedFile<'_, R>) -> Result<bool, OpenFault>
 where
     R::File: TryLock,
@@ -202,8 +205,8 @@ where
     Ok(2 <= sectors && file.begins_as_a_hill()?)
 }
 
-/// The device over this file, in doubt or not. `Failed` with `UnexpectedEof` if it has fewer than `least` sectors, and with `Other` if its headers
-/// can't be read.
+/// The device over this file, in doubt or not. `Failed` with `UnexpectedEof` if it has fewer than `least` sectors, and
+/// with `Other` if its headers can't be read.
 fn careful_over<'f, R: Files>(
     file: PlacedFile<'f, R>,
     doubt: bool,

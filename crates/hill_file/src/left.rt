@@ -5,8 +5,8 @@ ghost use Rattle.std.specs.Prelude.{◌≡◌, ◌≢◌, true, false};
 use crate::sector_file::Headers;
 use hill_bytes::decode_header;
 
-/// Whether a file with the headers `found` holds a hill, and not the one that was left with the headers `left`: neither as it was left, nor
-/// with a submission more.
+/// Whether a file with the headers `found` holds a hill, and not the one that was left with the headers `left`: neither
+/// as it was left, nor with a submission more.
 pub fn is_another_hill(left: &Headers, found: &Headers) -> bool
     ensures same { found.now ≡ left.now → result ≡ false }
 {

@@ -9,9 +9,11 @@ use std::fs::{File, Files, TryLockError};
 use std::io::ErrorKind;
 use std::os::unix::fs::FileExt;
 
-/// A file that is read and written at an offset, and whose lock can be taken without waiting. The system releases the lock with the handle, also if the program is stopped.
+/// A file that is read and written at an offset, and whose lock can be taken without waiting. The system releases the
+/// lock with the handle, also if the program is stopped.
 pub trait TryLock: FileExt {
-    /// Takes the lock. `Locked` if another open of the file holds it, and `Memory` or `Failed` if the system can't lock the file.
+    /// Takes the lock. `Locked` if another open of the file holds it, and `Memory` or `Failed` if the system can't lock
+    /// the file.
     fn lock_now(&self) -> Result<(), OpenFault>
         ensures { IfErr result IsWhateverHeld };
 }
@@ -26,8 +28,8 @@ impl TryLock for File {
     }
 }
 
-/// The lock of the file at this path, which this program holds, keeps another open of the file from taking it. `Failed` with `Unsupported` if
-/// it doesn't: some file systems grant a lock to everybody, as of networks. Never `Locked`.
+/// The lock of the file at this path, which this program holds, keeps another open of the file from taking it. `Failed`
+/// with `Unsupported` if it doesn't: some file systems grant a lock to everybody, as of networks. Never `Locked`.
 pub fn require_held<R: Files>(rt: &R, path: &str) -> Result<(), OpenFault>
 where
     R::File: TryLock,

@@ -39,9 +39,10 @@ where
 {
     /// The place at this path. Nothing is changed.
     ///
-    /// `Locked` if another program holds the lock of a file that is there. `Occupied` if `existing` is `Kept` and a link is there, or a file
-    /// of which one byte isn't zero. `Failed` with the system's reason if what is there can't be opened or read, as with `IsADirectory`,
-    /// with `InvalidInput` if it is no file, as a pipe, and with `ResourceBusy` if it grows while it is read.
+    /// `Locked` if another program holds the lock of a file that is there. `Occupied` if `existing` is `Kept` and a
+    /// link is there, or a file of which one byte isn't zero. `Failed` with the system's reason if what is there can't
+    /// be opened or read, as with `IsADirectory`, with `InvalidInput` if it is no file, as a pipe, and with
+    /// `ResourceBusy` if it grows while it is read.
     pub fn take(rt: &'f R, path: &'f str, existing: Existing) -> Result<Place<'f, R>, OpenFault>
         ensures overwritten { existing ≡ Existing.Overwritten → IfErr result IsWhateverHeld }
     {
@@ -61,10 +62,11 @@ where
 impl<R: Files> Place<'_, R> {
     /// Puts the file of the name `new` here, and makes its name here reach the disk. It has no other name then.
     ///
-    /// What is there is replaced if it may be overwritten, a link itself and not what it leads to. Else only a file is that was there when
-    /// the place was taken: `Occupied` if it isn't of the owner of the new one, or if something is there now and nothing was then. `Failed`
-    /// with `StaleNetworkFileHandle` if another file is there now, with `Unsupported` if a file can't have a second name, and with the
-    /// system's reason if a call fails. If the new file isn't here after a fault, it is removed, if the system lets it be.
+    /// What is there is replaced if it may be overwritten, a link itself and not what it leads to. Else only a file is
+    /// that was there when the place was taken: `Occupied` if it isn't of the owner of the new one, or if something is
+    /// there now and nothing was then. `Failed` with `StaleNetworkFileHandle` if another file is there now, with
+    /// `Unsupported` if a file can't have a second name, and with the system's reason if a call fails. If the new file
+    /// isn't here after a fault, it is removed, if the system lets it be.
     pub fn fill(&self, new: &str) -> Result<(), OpenFault>
         ensures overwritten { self.now.existing ≡ Existing.Overwritten → IfErr result IsWhateverHeld }
     {

@@ -21,7 +21,8 @@ pub enum Sharing {
     Alone,
     /// The same, and the file is read alone: each write is a fault.
     Kept,
-    /// Its lock is neither taken nor looked at. The file is read alone: another program may change its headers, and each write is a fault.
+    /// Its lock is neither taken nor looked at. The file is read alone: another program may change its headers, and
+    /// each write is a fault.
     Shared,
 }
 

@@ -33,10 +33,11 @@ impl Headers {
     }
 }
 
-/// A file of sectors of 512 bytes each, numbered from 0, of which the first two hold headers. Each call is one on the file, and is
-/// answered `Fault` if that fails.
+/// A file of sectors of 512 bytes each, numbered from 0, of which the first two hold headers. Each call is one on the
+/// file, and is answered `Fault` if that fails.
 pub trait SectorFile {
-    // What was done with the file, the latest first, as far as it keeps it. A history that is true of it stays true of it as it goes on.
+    // What was done with the file, the latest first, as far as it keeps it. A history that is true of it stays true of
+    // it as it goes on.
     ghost happened: { Self → List Done → Type 0 };
 
     /// The number of its whole sectors. `Fault` also if it isn't the file that was opened.

@@ -11,10 +11,12 @@ use std::io::{ErrorKind, Read, Seek, SeekFrom, Write};
 /// Bytes that are read at once.
 const CHUNK_BYTES: usize = 4096;
 
-/// Reads the file to its end. `Occupied` at the first byte that isn't zero, and `Failed` with `ResourceBusy` if the file grows meanwhile.
+/// Reads the file to its end. `Occupied` at the first byte that isn't zero, and `Failed` with `ResourceBusy` if the
+/// file grows meanwhile.
 pub(crate) fn require_zeros<F: Read + OpenFile>(file: &mut F) -> Result<(), OpenFault>
     ensures zeros { OnOk result (IfSome (F.remaining file.old) AreZeros) }
-    ensures other { IfErr result (λ fault. fault ≡ OpenFault.Occupied → IfSome (F.remaining file.old) (λ bytes. AreZeros bytes → ⊥)) }
+    ensures other { IfErr result (λ fault. fault ≡ OpenFault.Occupied
+        → IfSome (F.remaining file.old) (λ bytes. AreZeros bytes → ⊥)) }
 {
     let mut bytes = [0; CHUNK_BYTES];
     let length = file.metadata()?.len();
@@ -38,8 +40,8 @@ fn are_zeros(bytes: &[u8]) -> bool
     bytes.iter().all(|byte| *byte == 0)
 }
 
-/// Writes this many sectors of zeros at the front of the file, and syncs it. They are written and not only counted in its length, so that a
-/// full disk shows here.
+/// Writes this many sectors of zeros at the front of the file, and syncs it. They are written and not only counted in
+/// its length, so that a full disk shows here.
 pub(crate) fn write_zeros<F: OpenFile + Write + Seek>(
     file: &mut F,
     sectors: u32,

@@ -1,4 +1,6 @@
 mod Left
+pub mod Shared
 mod Added
+mod Joined
 mod Sorted
 mod Rows

@@ -1,6 +1,6 @@
 -- Small fields, computed: the pairs written out, and counts added by hand.
 use Rattle.std.proofs.Common.{◌≡◌, ◌==◌, if◌then◌else◌, [], ◌∷◌, refl}
-use Rattle.{koth_text.specs.{declared.tally.Tally.Tally}, koth_standings.specs.{declared.pairs.Pair.Pair, Pairs.{pair, pairs}, Standings.{counts_of, tally}, Ranking.points_at}}
+use Rattle.{koth_text.specs.{declared.tally.Tally.Tally}, koth_standings.specs.{declared.pairs.Pair.Pair, Pairs.{pair, pairs}, Parts.{part_of, sums_of}, Standings.{counts_of, tally}, Ranking.points_at}}
 
 no_field : pairs 0 ≡ []
 no_field = refl
@@ -26,3 +26,21 @@ points = refl
 -- a match that is missing is in no count: without that of the first and the last
 without : counts_of match_of 3 (pair 0 1 ∷ pair 1 2 ∷ []) ≡ tally 3 1 2 ∷ tally 6 4 2 ∷ tally 1 5 0 ∷ []
 without = refl
+
+-- three parts of six pairs: each pair is in one of them
+first_of_three : part_of 1 3 (pairs 4) ≡ pair 0 1 ∷ pair 1 2 ∷ []
+first_of_three = refl
+
+second_of_three : part_of 2 3 (pairs 4) ≡ pair 0 2 ∷ pair 1 3 ∷ []
+second_of_three = refl
+
+third_of_three : part_of 3 3 (pairs 4) ≡ pair 0 3 ∷ pair 2 3 ∷ []
+third_of_three = refl
+
+-- a part may have no pairs
+empty_part : part_of 8 9 (pairs 4) ≡ []
+empty_part = refl
+
+-- the counts of two parts add up to those of the field
+joined : sums_of 3 (counts_of match_of 3 (part_of 1 2 (pairs 3)) ∷ counts_of match_of 3 (part_of 2 2 (pairs 3)) ∷ []) ≡ counts_of match_of 3 (pairs 3)
+joined = refl

@@ -2,7 +2,7 @@
 
 ghost use Rattle.std.specs.Prelude.{◌≡◌, ◌+◌, ◌*◌, ◌<◌, ◌≤◌, ◌++◌, ◌∷◌, [], length, All, IfOk, List};
 ghost use Rattle.koth_text.specs.{declared.tally.Tally.Tally, Tally.points_of};
-ghost use Rattle.koth_standings.specs.{declared.pairs.Pair.Pair, Pairs.IsPair, Standings.{at_place, both, most_matches, most_rounds, rounds_in, turned, with_match, AreOf}};
+ghost use Rattle.koth_standings.specs.{declared.pairs.Pair.Pair, Pairs.IsPair, Parts.{added_up, sums_of}, Standings.{at_place, both, most_matches, most_rounds, rounds_in, turned, with_match, AreOf}};
 
 use crate::pairs::Pair;
 use koth_text::Tally;
@@ -15,7 +15,7 @@ const NO_ROUNDS: Tally = Tally {
     tied: 0,
 };
 
-/// The rounds of each warrior of a field in the matches that were added.
+/// The rounds of each warrior of a field in the matches that were added, one by one or by parts.
 #[derive(Drop)]
 pub struct Standings<A: Allocator> {
     counts: Vec<Tally, A>,
@@ -58,6 +58,20 @@ impl<A: Allocator> Standings<A> {
         self.matches += 1;
     }
 
+    /// Adds the rounds of the matches of a part of the field: those of each place, in the order of places.
+    pub fn add_part(&mut self, part: &[Tally], matches: u64)
+        requires many { length part.now ≡ length self.old.counts }
+        requires few { self.old.matches + matches ≤ most_matches }
+        requires rounds { All (λ t. rounds_in t ≤ most_rounds * matches) part.now }
+        ensures value { self.new.counts ≡ added_up self.old.counts part.now }
+        ensures matches { self.new.matches ≡ self.old.matches + matches }
+        ensures sums { (parts : List (List Tally)) → self.old.counts ≡ sums_of (length self.old.counts) parts
+            → self.new.counts ≡ sums_of (length self.old.counts) (parts ++ part.now ∷ []) }
+    {
+        put_part(&mut self.counts, part);
+        self.matches += matches;
+    }
+
     /// How many matches were added.
     pub fn matches(&self) -> u64
         ensures { result ≡ self.now.matches }
@@ -93,6 +107,19 @@ fn put_match<A: Allocator>(counts: &mut Vec<Tally, A>, pair: Pair, tally: Tally)
     let younger = sum(counts[pair.younger], turned(tally));
     counts[pair.older] = older;
     counts[pair.younger] = younger;
+}
+
+/// Adds the rounds of each place in a part.
+fn put_part<A: Allocator>(counts: &mut Vec<Tally, A>, part: &[Tally])
+    requires many { length part.now ≡ length counts.old.items }
+    requires room { All (λ t. rounds_in t ≤ most_rounds * most_matches) counts.old.items }
+    requires rounds { All (λ t. rounds_in t ≤ most_rounds * most_matches) part.now }
+    ensures { counts.new.items ≡ added_up counts.old.items part.now }
+{
+    for place in 0..part.len() {
+        let more = sum(counts[place], part[place]);
+        counts[place] = more;
+    }
 }
 
 /// The rounds of both.

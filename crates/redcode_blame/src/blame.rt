@@ -109,19 +109,19 @@ fn told_on<'s, A: Allocator + Copy>(
     fault: AsmFault,
 ) -> Answer<'s> {
     match fault.kind {
-        AsmKind::UnmatchedFor | AsmKind::UnmatchedRof => Ok(unmatched(row)),
+        AsmKind::UnmatchedFor | AsmKind::UnmatchedRof => unmatched(scene, row),
         AsmKind::ForLimit => Ok(for_limit(row)),
         AsmKind::DuplicateName => duplicate_name(scene, row),
         AsmKind::BadEqu => Ok(bad_equ(row)),
-        AsmKind::EquLimit => Ok(equ_limit(scene, row)),
+        AsmKind::EquLimit => equ_limit(scene, row),
         AsmKind::ForCount(kind) => count(scene, row, kind),
         AsmKind::BadToken => Ok(bad_token(scene, row)),
-        AsmKind::BadOperation => bad_operation(scene.alloc, row),
+        AsmKind::BadOperation => bad_operation(scene, row),
         AsmKind::Pspace => Ok(pspace(row)),
         AsmKind::BadModifier => Ok(bad_modifier(row)),
-        AsmKind::MissingOperand => Ok(missing_operand(row)),
+        AsmKind::MissingOperand => missing_operand(scene, row, fault),
         AsmKind::Expression(kind) => expression(scene, row, fault, kind),
-        AsmKind::ExtraText => Ok(extra_text(row)),
+        AsmKind::ExtraText => extra_text(scene, row, fault),
         AsmKind::BadStart => Ok(bad_start(scene, row)),
         AsmKind::AssertFalse => {
             let span = row.spans(row.reading.tokens);

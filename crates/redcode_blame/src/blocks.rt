@@ -3,20 +3,44 @@
 use crate::blame::{Answer, Told, told_parts, told_text, told_word};
 use crate::said::Part;
 use redcode_expand::predefined;
-use redcode_lines::{Span, has_and, is_name};
+use redcode_lines::{Span, has_and, has_text, is_name};
 use redcode_scene::{
-    Role, Row, Scene, blocks_around, definition, is_among, last_name, nearest_word,
+    Definer, Row, Scene, definer_before, is_joined, is_label, misspelt_word, nearest_word,
 };
 use redcode_text::{Token, Word};
 use std::alloc::{AllocError, Allocator};
 
 /// A `FOR` without its `ROF`, or a `ROF` without its `FOR`.
-pub(crate) fn unmatched(row: &Row<'_, '_>) -> Told<'static> {
-    let said = match row.reading.word {
-        Some(Word::For) => "no `ROF` below ends the block of this `FOR`",
-        _ => "no block is open that this `ROF` could end",
+pub(crate) fn unmatched<'s, A: Allocator + Copy>(
+    scene: &Scene<'s, A>,
+    row: &Row<'_, '_>,
+) -> Answer<'s> {
+    let number = row.reading.number;
+    let (said, missing, end) = match row.reading.word {
+        Some(Word::For) => (
+            "no `ROF` below ends the block of this `FOR`",
+            Word::Rof,
+            " a misspelt `ROF`?",
+        ),
+        _ => (
+            "no block is open that this `ROF` could end",
+            Word::For,
+            " a misspelt `FOR`?",
+        ),
     };
-    told_text(row.word(), said)
+    let Some((name, line)) = misspelt_word(scene, number, missing)? else {
+        return Ok(told_text(row.word(), said));
+    };
+    let parts = [
+        Part::Text(said),
+        Part::Text("; is "),
+        Part::Word(name),
+        Part::Text(" in line "),
+        Part::Number(i64::from(line)),
+        Part::Text(end),
+    ];
+    let span = row.word();
+    Ok(Told { span, parts })
 }
 
 /// A line past the limit.
@@ -30,77 +54,60 @@ pub(crate) fn for_limit(row: &Row<'_, '_>) -> Told<'static> {
     told_text(row.whole(), said)
 }
 
-/// What has defined a name before.
-#[derive(Clone, Copy)]
-enum Definer {
-    /// The language: the name is predefined.
-    Language,
-    /// The line of this number.
-    Line(u32),
-}
-
 /// A name that is defined a second time.
 pub(crate) fn duplicate_name<'s, A: Allocator + Copy>(
     scene: &Scene<'s, A>,
     row: &Row<'_, 's>,
 ) -> Answer<'s> {
-    match defined_label(scene, row) {
-        None => Ok(defined_by_copies(scene, row)),
-        Some((label, Definer::Line(line))) => defined_in(scene.alloc, row, label, line),
-        Some((label, Definer::Language)) => {
-            let said = " is a predefined name, and can't be defined";
-            Ok(told_word(row.span(label), label.text, said))
-        }
-    }
-}
-
-/// The first label of a line that is defined already, and what has defined it.
-fn defined_label<'l, 's, A: Allocator + Copy>(
-    scene: &Scene<'_, A>,
-    row: &Row<'l, 's>,
-) -> Option<(&'l Token<'s>, Definer)> {
     let labels = row.reading.labels();
-    if has_and(labels) {
-        return None;
-    }
     for (i, label) in labels.iter().enumerate() {
-        if is_name(label)
-            && !is_counter(row, label.text)
-            && let Some(definer) = definer_of(scene, row.reading.number, &labels[..i], label.text)
-        {
-            return Some((label, definer));
+        if !is_label(scene, &row.reading, &labels[..i], label, &labels[i + 1..]) {
+            continue;
+        }
+        if let Some(told) = defined_label(scene, row, label)? {
+            return Ok(told);
         }
     }
-    None
+    Ok(defined_by_copies(scene, row))
 }
 
-/// Whether the name is the counter of the block that the line begins.
-fn is_counter(row: &Row<'_, '_>, name: &[u8]) -> bool {
-    matches!(row.reading.word, Some(Word::For)) && last_name(row.reading.labels()) == Some(name)
-}
-
-/// What has defined a name that stands in the line of this number, after these labels of it.
-fn definer_of<A: Allocator + Copy>(
-    scene: &Scene<'_, A>,
-    number: u32,
-    before: &[Token<'_>],
-    name: &[u8],
-) -> Option<Definer> {
-    if predefined(scene.settings, 0, name).is_some() {
-        return Some(Definer::Language);
+/// A label that is defined before its line, or before on it.
+fn defined_label<'s, A: Allocator + Copy>(
+    scene: &Scene<'s, A>,
+    row: &Row<'_, 's>,
+    label: &Token<'s>,
+) -> Result<Option<Told<'s>>, AllocError> {
+    let span = row.span(label);
+    if predefined(scene.settings, 0, label.text).is_some() {
+        let said = " is a predefined name, and can't be defined";
+        return Ok(Some(told_word(span, label.text, said)));
     }
-    if is_among(before, name) {
-        return Some(Definer::Line(number));
+    let number = row.reading.number;
+    if stands_before(row.reading.labels(), label) {
+        return Ok(Some(defined_in(scene.alloc, row, label, number)?));
     }
-    let line = line_before(scene, name, number)?;
-    Some(Definer::Line(line))
+    match definer_before(scene, label.text, number)? {
+        Definer::Line(line) => Ok(Some(defined_in(scene.alloc, row, label, line)?)),
+        Definer::Joined(_) => {
+            let said = "a copy of a block above has joined its labels to this name already";
+            Ok(Some(told_text(span, said)))
+        }
+        Definer::Unknown => Ok(Some(told_word(span, label.text, " is defined already"))),
+        Definer::Nothing => Ok(None),
+    }
 }
 
-/// The line before this one that defines a name.
-fn line_before<A: Allocator + Copy>(scene: &Scene<'_, A>, name: &[u8], number: u32) -> Option<u32> {
-    let label = definition(scene, Role::Label, name, number);
-    let equ = definition(scene, Role::Equ, name, number);
-    label.or(equ)
+/// Whether the name of a label stands among the labels before it.
+fn stands_before(labels: &[Token<'_>], label: &Token<'_>) -> bool {
+    for token in labels {
+        if token.at >= label.at {
+            return false;
+        }
+        if is_name(token) && token.text == label.text {
+            return true;
+        }
+    }
+    false
 }
 
 /// A name that is defined in an earlier line, or before on the same line.
@@ -146,17 +153,36 @@ fn operation_meant<A: Allocator + Copy>(
 }
 
 /// Labels that copies of blocks define again.
-fn defined_by_copies<A: Allocator + Copy>(
-    scene: &Scene<'_, A>,
-    row: &Row<'_, '_>,
-) -> Told<'static> {
+fn defined_by_copies<'s, A: Allocator + Copy>(scene: &Scene<'_, A>, row: &Row<'_, 's>) -> Told<'s> {
     let labels = row.reading.labels();
+    let span = row.spans(labels);
+    if let Some(name) = no_counter(scene, row.reading.number, labels) {
+        let said =
+            " is the counter of no block around this line, so `&` joins nothing: each copy defines these anew";
+        return told_word(span, name.text, said);
+    }
     let said = if has_and(labels) {
         "a copy of the block joins these to a name that is defined already"
-    } else if blocks_around(scene.lines.as_slice(), row.reading.number).count == 0 {
-        "a copy of a block above has joined its labels to this name already"
     } else {
         "each copy of the block defines this anew; a name of its own ends with `&` and the counter"
     };
-    told_text(row.spans(labels), said)
+    told_text(span, said)
+}
+
+/// The first name after an `&` that is no counter, on the line of this number.
+fn no_counter<'t, 's, A: Allocator + Copy>(
+    scene: &Scene<'_, A>,
+    number: u32,
+    labels: &'t [Token<'s>],
+) -> Option<&'t Token<'s>> {
+    for (i, and) in labels.iter().enumerate() {
+        let behind = &labels[i + 1..];
+        if let [name, ..] = behind
+            && has_text(and, b"&")
+            && !is_joined(scene, number, &labels[i..])
+        {
+            return Some(name);
+        }
+    }
+    None
 }

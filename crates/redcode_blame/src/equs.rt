@@ -1,10 +1,12 @@
 //! Faults of `EQU` lines, and of what their names stand for.
 
-use crate::blame::{Told, told_before, told_text, told_word};
-use redcode_lines::{behind_first, word_at};
-use redcode_scene::{Row, Scene, first_equ, last_name, operands_in};
+use crate::blame::{Answer, Told, told_before, told_text, told_word};
+use redcode_lines::{behind_first, is_name, word_at};
+use redcode_scene::{
+    Role, Row, Scene, definition, is_limited, last_name, operands_in, probe_steps,
+};
 use redcode_text::{Token, Word};
-use std::alloc::Allocator;
+use std::alloc::{AllocError, Allocator};
 
 /// Tokens that operands may have, before and after their names are replaced.
 const TOKEN_LIMIT: usize = 512;
@@ -17,14 +19,14 @@ pub(crate) fn bad_equ<'s>(row: &Row<'_, 's>) -> Told<'s> {
         reserved_in(behind_first(row.reading.tokens)),
     ) {
         (None, _) => {
-            let said = "a name is due before `EQU`, as in `step EQU 4`";
+            let said = "a name is expected before `EQU`, as in `step EQU 4`";
             told_text(word, said)
         }
         (Some(_), Some(reserved)) => {
             let said = " is a reserved word, and can't stand in the body of an `EQU`";
             told_word(row.span(reserved), reserved.text, said)
         }
-        (Some(name), None) => told_before(word, "nothing stands behind the `EQU` of ", name),
+        (Some(name), None) => told_before(word, "nothing stands after the `EQU` of ", name),
     }
 }
 
@@ -50,21 +52,39 @@ pub(crate) fn replaced_in<'l, 's>(row: &Row<'l, 's>) -> &'l [Token<'s>] {
 pub(crate) fn equ_limit<'s, A: Allocator + Copy>(
     scene: &Scene<'_, A>,
     row: &Row<'_, 's>,
-) -> Told<'s> {
+) -> Answer<'s> {
     let tokens = replaced_in(row);
     if tokens.len() > TOKEN_LIMIT {
         let said = "there are more than 512 tokens here";
-        return told_text(row.spans(tokens), said);
+        return Ok(told_text(row.spans(tokens), said));
     }
-    match first_equ(scene, tokens) {
+    match too_deep(scene, row, tokens)? {
         Some(name) => {
             let said = " leads to itself again, or more than 16 deep, or to more than 512 tokens";
-            told_word(row.span(name), name.text, said)
+            Ok(told_word(row.span(name), name.text, said))
         }
         None => {
             let said =
                 "there are more than 512 tokens here, or names of `EQU` lines more than 16 deep";
-            told_text(row.spans(tokens), said)
+            Ok(told_text(row.spans(tokens), said))
         }
     }
+}
+
+/// The first name of an `EQU` among these tokens for which the line is refused without the others.
+fn too_deep<'t, 's, A: Allocator + Copy>(
+    scene: &Scene<'_, A>,
+    row: &Row<'_, '_>,
+    tokens: &'t [Token<'s>],
+) -> Result<Option<&'t Token<'s>>, AllocError> {
+    let mut steps = probe_steps();
+    for token in tokens {
+        if !is_name(token) || definition(scene, Role::Equ, token.text, u32::MAX).is_none() {
+            continue;
+        }
+        if is_limited(scene, row, tokens, token.text, &mut steps)? {
+            return Ok(Some(token));
+        }
+    }
+    Ok(None)
 }

@@ -2,67 +2,44 @@
 
 use crate::blame::{Answer, END, Told, told_parts};
 use crate::said::Part;
-use redcode_lines::{Span, has_text, is_name};
-use redcode_scene::{Role, Row, Scene, definition, is_reserved, nearest_name};
+use redcode_lines::{Span, is_name};
+use redcode_scene::{Judged, Role, Scene, definition, is_reserved, nearest_name};
 use redcode_text::{Names, Token};
 use std::alloc::Allocator;
 
 /// The first name among these tokens without a value.
-pub(crate) fn first_unknown<'s, N: Names>(tokens: &[Token<'s>], names: &N) -> Option<&'s [u8]> {
+pub(crate) fn first_unknown<'t, 's, N: Names>(
+    tokens: &'t [Token<'s>],
+    names: &N,
+) -> Option<&'t Token<'s>> {
     for token in tokens {
         if is_name(token) && names.value_of(token.text).is_none() {
-            return Some(token.text);
+            return Some(token);
         }
     }
     None
 }
 
-/// A name that nothing defines, in these tokens of the line.
+/// A name that nothing defines, on a line that was judged.
 pub(crate) fn unknown_name<'s, A: Allocator + Copy>(
     scene: &Scene<'s, A>,
-    row: &Row<'_, '_>,
-    tokens: &[Token<'_>],
-    name: &'s [u8],
+    line: &Judged<'_, 's, A>,
+    token: &Token<'s>,
 ) -> Answer<'s> {
-    if let Some(span) = written_at(row, tokens, name) {
-        return not_defined(scene, span, name, "");
+    let span = line.span(token);
+    if line.is_joined(token) {
+        return Ok(nothing_called(span, token.text, ", which is joined here"));
     }
-    match joined_at(row, tokens, name) {
-        Some(span) => Ok(nothing_called(span, name, ", which is joined here")),
-        None => {
-            let said = " (the body of an `EQU` that is used here names it)";
-            not_defined(scene, row.spans(tokens), name, said)
-        }
-    }
-}
-
-/// Where a name stands among the tokens of a line.
-fn written_at(row: &Row<'_, '_>, tokens: &[Token<'_>], name: &[u8]) -> Option<Span> {
-    for token in tokens {
-        if is_name(token) && token.text == name {
-            return Some(row.span(token));
-        }
-    }
-    None
-}
-
-/// The tokens of a line that a copy joins to a name.
-fn joined_at(row: &Row<'_, '_>, tokens: &[Token<'_>], name: &[u8]) -> Option<Span> {
-    let mut rest = tokens;
-    while let [first, behind @ ..] = rest {
-        if let [and, last, ..] = behind
-            && has_text(and, b"&")
-            && name.starts_with(first.text)
-        {
-            return Some(row.span(first).to(row.span(last)));
-        }
-        rest = behind;
-    }
-    None
+    let said = if line.is_replaced(scene, token) {
+        " (the body of an `EQU` that is used here names it)"
+    } else {
+        ""
+    };
+    not_defined(scene, span, token.text, said)
 }
 
 /// A name that nothing defines, with a text at the end of the sentence.
-fn not_defined<'s, A: Allocator + Copy>(
+pub(crate) fn not_defined<'s, A: Allocator + Copy>(
     scene: &Scene<'s, A>,
     span: Span,
     name: &'s [u8],
@@ -95,7 +72,7 @@ fn counter_outside<'s>(span: Span, name: &'s [u8], line: u32, end: &'s str) -> T
         Part::Word(name),
         Part::Text(" is the counter of the block of line "),
         Part::Number(i64::from(line)),
-        Part::Text(", and is replaced in the lines of that block alone"),
+        Part::Text(", and is replaced only in the lines of that block"),
         Part::Text(end),
         END,
     ];

@@ -2,6 +2,7 @@
 
 use crate::blame::{Answer, END, Told, told_parts, told_text, told_word};
 use crate::said::Part;
+use crate::shape::COMMENT;
 use redcode_lines::{LineForm, Span, has_text, is_name, line_text, part_of};
 use redcode_scene::{Row, Scene, is_operation, nearest_word};
 use redcode_text::{Token, TokenKind};
@@ -25,7 +26,10 @@ pub(crate) fn bad_token<'s, A: Allocator + Copy>(
                 "a byte order mark; save the source without it",
             )
         }
-        Some(token) => unknown_byte(row.span(token), token.text),
+        Some(token) => {
+            let text = line_text(scene.source, row.reading.number);
+            unknown_character(row.span(token), text)
+        }
         None => {
             let said = "the body of an `EQU` that is used here has a byte that is no symbol";
             told_text(row.whole(), said)
@@ -77,23 +81,54 @@ fn assigned<'s, A: Allocator + Copy>(
     Told { span, parts }
 }
 
-/// A byte that is no symbol.
-fn unknown_byte<'s>(span: Span, text: &'s [u8]) -> Told<'s> {
+/// A character at this place of a line's text that is no symbol.
+fn unknown_character<'s>(span: Span, text: &'s [u8]) -> Told<'s> {
+    let from = span.from;
+    let width = width_of(part_of(text, Span { from, width: 4 }));
+    let span = Span { from, width };
+    let character = part_of(text, span);
     let said = " is no symbol; it may stand in a comment";
-    match text {
-        [b'='] => told_text(span, "`=` is no symbol; two values are compared by `==`"),
+    match character {
+        b"=" => told_text(span, "`=` is no symbol; two values are compared by `==`"),
+        b"|" => told_text(span, "`|` is no symbol; `or` is `||`"),
+        b"\xc2\xa0" => told_text(span, "a no-break space is no blank; type a space"),
+        b"\xe2\x80\x90"
+        | b"\xe2\x80\x91"
+        | b"\xe2\x80\x92"
+        | b"\xe2\x80\x93"
+        | b"\xe2\x80\x94"
+        | b"\xe2\x88\x92" => { told_word(span, character, " is no symbol; the minus sign is `-`") }
         [byte] if !byte.is_ascii_graphic() => {
             let number = Part::Number(i64::from(*byte));
             told_parts(span, Part::Text("the byte "), number, Part::Text(said))
         }
-        _ => told_word(span, text, said),
+        _ => told_word(span, character, said),
     }
 }
 
+/// Bytes of the character of UTF-8 at the front of a text; 1 if none is there.
+fn width_of(text: &[u8]) -> u32 {
+    match text {
+        [a, b, ..] if (0xc2..=0xdf).contains(a) && goes_on(*b) => 2,
+        [a, b, c, ..] if (0xe0..=0xef).contains(a) && goes_on(*b) && goes_on(*c) => 3,
+        [a, b, c, d, ..]
+            if (0xf0..=0xf4).contains(a) && goes_on(*b) && goes_on(*c) && goes_on(*d) => 4,
+        _ => 1,
+    }
+}
+
+/// Whether a byte goes on with a character of UTF-8.
+fn goes_on(byte: u8) -> bool {
+    byte & 0xc0 == 0x80
+}
+
 /// Something else than an operation after the labels.
-pub(crate) fn bad_operation<'s, A: Allocator + Copy>(alloc: A, row: &Row<'_, 's>) -> Answer<'s> {
+pub(crate) fn bad_operation<'s, A: Allocator + Copy>(
+    scene: &Scene<'s, A>,
+    row: &Row<'_, 's>,
+) -> Answer<'s> {
     let front = front_of(row.reading.tokens);
-    match misspelt(alloc, front)? {
+    match misspelt(scene.alloc, front)? {
         Some((token, word)) => {
             let is_none = Part::Text(" is no operation; did you mean ");
             let (name, word) = (Part::Word(token.text), Part::Word(word));
@@ -108,15 +143,22 @@ pub(crate) fn bad_operation<'s, A: Allocator + Copy>(alloc: A, row: &Row<'_, 's>
 /// No operation after the names at the front of a line, nor a word that is nearly one.
 fn no_operation<'s>(row: &Row<'_, 's>, front: &[Token<'s>]) -> Told<'s> {
     match (front, row.reading.tokens) {
+        ([], [first, second, ..]) if has_text(first, b"/") && has_text(second, b"/") => {
+            told_word(row.span(first).to(row.span(second)), b"//", COMMENT)
+        }
+        ([], [first, ..]) if has_text(first, b"#") => {
+            let said = " stands where an operation is expected; a comment begins with `;`";
+            told_word(row.span(first), first.text, said)
+        }
         ([], [first, ..]) => {
-            let said = " stands where an operation is due";
+            let said = " stands where an operation is expected";
             told_word(row.span(first), first.text, said)
         }
         ([.., last], _) if is_name(last) => {
             told_word(row.span(last), last.text, " is no operation")
         }
         _ => {
-            let said = "no operation stands behind the labels; labels alone have no `:`";
+            let said = "no operation stands after the labels; labels without one have no `:`";
             told_text(row.whole(), said)
         }
     }
@@ -178,11 +220,11 @@ pub(crate) fn bad_modifier<'s>(row: &Row<'_, 's>) -> Told<'s> {
             told_word(row.span(name), name.text, said)
         }
         [_, dot] if has_text(dot, b".") => {
-            let said = "a modifier is due behind the dot: A, B, AB, BA, F, X or I";
+            let said = "a modifier is expected after the dot: A, B, AB, BA, F, X or I";
             told_text(row.span(dot), said)
         }
         _ => {
-            let said = "a dot in the body of an `EQU` that is used here has no modifier behind it";
+            let said = "a dot in the body of an `EQU` that is used here has no modifier after it";
             told_text(row.whole(), said)
         }
     }

@@ -3,13 +3,13 @@
 use crate::blame::{END, Told, told_text};
 use crate::said::{Part, say};
 use redcode_asm::said_by;
-use redcode_expand::{LineKind, SOURCE_LIMIT, predefined};
+use redcode_expand::{LineKind, SOURCE_LIMIT};
 use redcode_lines::{Span, has_text, is_name};
-use redcode_scene::{Row, Scene, faulty_line, operands_in};
+use redcode_scene::{Judged, Row, Scene, judged_line, operands_in};
 use redcode_statement::Statement;
-use redcode_text::Token;
+use redcode_text::{Token, value};
 use std::alloc::{AllocError, Allocator};
-use war_types::{AsmFault, Settings};
+use war_types::AsmFault;
 
 /// No place of a line.
 const NOWHERE: Span = Span { from: 0, width: 0 };
@@ -88,31 +88,31 @@ pub(crate) fn say_assertion<A: Allocator + Copy>(
     scene: &Scene<'_, A>,
     fault: AsmFault,
 ) -> Result<(), AllocError> {
-    let Some(expanded) = &scene.expanded else {
+    let Some(row) = scene.row(fault.line) else {
         return Ok(());
     };
-    match faulty_line(expanded, scene.settings, fault) {
-        Some(faulty) => say_values(said, scene.settings, faulty.line.before, faulty.tokens),
+    match judged_line(scene, &row, fault)? {
+        Some(line) => say_values(said, &line, row.reading.tokens),
         None => Ok(()),
     }
 }
 
-/// Says the values of the predefined names among these tokens.
-fn say_values<A: Allocator>(
+/// Says the values of the names in an assertion, of which these tokens are written.
+fn say_values<'s, A: Allocator + Copy>(
     said: &mut Vec<u8, A>,
-    settings: &Settings,
-    before: u32,
-    tokens: &[Token<'_>],
+    line: &Judged<'_, 's, A>,
+    written: &[Token<'s>],
 ) -> Result<(), AllocError> {
     let mut mark = ": ";
-    for (i, token) in tokens.iter().enumerate() {
-        if !is_name(token) || stands_in(&tokens[..i], token.text) {
+    for (i, token) in written.iter().enumerate() {
+        let stands = line.standing_for(token);
+        if stands.is_empty() || !is_name(token) || stands_in(&written[..i], token.text) {
             continue;
         }
-        if let Some(value) = predefined(settings, before, token.text) {
+        if let Ok(value) = value(stands, &line.names()) {
             let parts = [
                 Part::Text(mark),
-                Part::Bytes(token.text),
+                Part::Bytes(name_of(token, stands)),
                 Part::Text(" is "),
                 Part::Number(value),
             ];
@@ -121,6 +121,14 @@ fn say_values<A: Allocator>(
         }
     }
     Ok(())
+}
+
+/// The name that these tokens stand for: one that is joined to counters, or that of the token itself.
+fn name_of<'t>(token: &Token<'t>, stands: &[Token<'t>]) -> &'t [u8] {
+    match stands {
+        [joined] if is_name(joined) && joined.text.starts_with(token.text) => joined.text,
+        _ => token.text,
+    }
 }
 
 /// Whether a token with this text is among the tokens.

@@ -1,5 +1,6 @@
 //! The copy of a block that is refused.
 
+use crate::definitions::last_name;
 use crate::judge::{Faulty, faulty_line};
 use crate::scene::Scene;
 use redcode_expand::LineKind;
@@ -70,6 +71,21 @@ pub fn blocks_around<A: Allocator>(lines: &[SourceLine<'_, A>], number: u32) -> 
         }
     }
     around
+}
+
+/// Whether a block is open before the line of this number whose counter has this name.
+pub fn is_counter_at<A: Allocator>(lines: &[SourceLine<'_, A>], number: u32, name: &[u8]) -> bool {
+    let mut closed: u32 = 0;
+    for line in lines.iter().rev() {
+        match line.word() {
+            _ if line.number() >= number => {}
+            Some(Word::Rof) => closed = closed.saturating_add(1),
+            Some(Word::For) if closed > 0 => closed = closed.saturating_sub(1),
+            Some(Word::For) if last_name(line.reading().front) == Some(name) => return true,
+            _ => {}
+        }
+    }
+    false
 }
 
 impl Around {

@@ -61,19 +61,6 @@ fn defines(line: &Reading<'_, '_>, role: Role, name: &[u8]) -> bool {
     }
 }
 
-/// The first of the tokens that is the name of an `EQU`.
-pub fn first_equ<'t, 's, A: Allocator + Copy>(
-    scene: &Scene<'_, A>,
-    tokens: &'t [Token<'s>],
-) -> Option<&'t Token<'s>> {
-    for token in tokens {
-        if is_name(token) && definition(scene, Role::Equ, token.text, u32::MAX).is_some() {
-            return Some(token);
-        }
-    }
-    None
-}
-
 /// The last name among these tokens.
 pub fn last_name<'s>(tokens: &[Token<'s>]) -> Option<&'s [u8]> {
     let mut last = None;

@@ -1,5 +1,6 @@
 //! Why tokens make no expression.
 
+use redcode_lines::has_text;
 use redcode_text::{Token, TokenKind};
 
 /// What a token is in an expression.
@@ -20,6 +21,8 @@ enum Role {
 #[derive(Clone, Copy)]
 pub enum Flaw<'l, 's> {
     SideBySide(&'l Token<'s>, &'l Token<'s>),
+    /// Two `/`, as before a comment of other languages.
+    Slashes(&'l Token<'s>, &'l Token<'s>),
     Stranger(&'l Token<'s>),
     /// A `!` after a value.
     Behind(&'l Token<'s>),
@@ -31,6 +34,21 @@ pub enum Flaw<'l, 's> {
     NoValue(&'l Token<'s>),
     /// The last token, after which a value is due.
     NoEnd(&'l Token<'s>),
+}
+
+impl<'l, 's> Flaw<'l, 's> {
+    /// The first of the tokens that show it, and the last.
+    pub fn tokens(self) -> (&'l Token<'s>, &'l Token<'s>) {
+        match self {
+            Flaw::SideBySide(first, last) | Flaw::Slashes(first, last) => (first, last),
+            Flaw::Stranger(token)
+            | Flaw::Behind(token)
+            | Flaw::Unopened(token)
+            | Flaw::Unclosed(token)
+            | Flaw::NoValue(token)
+            | Flaw::NoEnd(token) => (token, token),
+        }
+    }
 }
 
 /// How far an expression is read.
@@ -67,6 +85,9 @@ impl<'l, 's> Reader<'l, 's> {
             (Role::Value | Role::Open, true, Some(last)) => Some(Flaw::SideBySide(last, token)),
             (Role::Not, true, _) => Some(Flaw::Behind(token)),
             (Role::Close, _, _) if self.open == 0 => Some(Flaw::Unopened(token)),
+            (Role::Operator, false, Some(last)) if are_slashes(last, token) => {
+                Some(Flaw::Slashes(last, token))
+            }
             (Role::Close | Role::Operator, false, _) => Some(Flaw::NoValue(token)),
             _ => None,
         }
@@ -85,6 +106,11 @@ impl<'l, 's> Reader<'l, 's> {
             },
         }
     }
+}
+
+/// Whether these are two `/`.
+fn are_slashes(first: &Token<'_>, second: &Token<'_>) -> bool {
+    has_text(first, b"/") && has_text(second, b"/")
 }
 
 /// The first flaw of some tokens, if their order shows one.

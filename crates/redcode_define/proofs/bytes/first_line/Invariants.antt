@@ -1,0 +1,6 @@
+-- No line feed so far.
+use Rattle.std.proofs.Common.{◌≢◌, ℕ, ◌<◌, get_or}
+use Rattle.redcode_define.proofs.bytes.first_line.Given as goal
+
+abbrev pub invariant-loop-i : goal.invariant-loop-i
+invariant-loop-i l = (k : ℕ) → k < l.i → get_or l.source k 0 ≢ 10

@@ -1,0 +1,4 @@
+-- the lines of instructions
+pub mod Lines
+-- the listing
+pub mod Listing
