@@ -4,7 +4,7 @@
 //! they mean, a constant each, which carries its kind. `written` writes that for people.
 //!
 //! The main clauses: `kinds` has every kind, and `explained` writes what each kind with a name means.
-//! That a source earns its kind is no clause: `bench/meanings` has the program look at each.
+//! That a source earns its kind is no clause. No command calls this crate yet.
 #![tactic(auto)]
 
 mod counts;
