@@ -9,19 +9,19 @@ _koth_takes() {
             kinds=('command')
             ;;
         'asm')
-            options='--name -h --help --like --preset -s --core -p --processes -l --length -d --distance -c --cycles -r --rounds --read-limit --write-limit --seed --capacity'
-            valued='--name --like --preset -s --core -p --processes -l --length -d --distance -c --cycles -r --rounds --read-limit --write-limit --seed --capacity'
+            options='--name --define --listing -h --help --like --preset -s --core -p --processes -l --length -d --distance -c --cycles -r --rounds --read-limit --write-limit --seed --capacity'
+            valued='--name --define --like --preset -s --core -p --processes -l --length -d --distance -c --cycles -r --rounds --read-limit --write-limit --seed --capacity'
             kinds=('source')
             ;;
         'check')
-            options='--name --format --warnings --deny -h --help --like --preset -s --core -p --processes -l --length -d --distance -c --cycles -r --rounds --read-limit --write-limit --seed --capacity'
-            valued='--name --format --deny --like --preset -s --core -p --processes -l --length -d --distance -c --cycles -r --rounds --read-limit --write-limit --seed --capacity'
+            options='--name --define --format --warnings --deny -h --help --like --preset -s --core -p --processes -l --length -d --distance -c --cycles -r --rounds --read-limit --write-limit --seed --capacity'
+            valued='--name --define --format --deny --like --preset -s --core -p --processes -l --length -d --distance -c --cycles -r --rounds --read-limit --write-limit --seed --capacity'
             kinds=('source')
             further='source'
             ;;
         'fight')
-            options='--name --both --each --plain --table --format -h --help --like --preset -s --core -p --processes -l --length -d --distance -c --cycles -r --rounds --read-limit --write-limit --seed --capacity'
-            valued='--name --format --like --preset -s --core -p --processes -l --length -d --distance -c --cycles -r --rounds --read-limit --write-limit --seed --capacity'
+            options='--name --define --both --each --many --plain --table --format -h --help --like --preset -s --core -p --processes -l --length -d --distance -c --cycles -r --rounds --read-limit --write-limit --seed --capacity'
+            valued='--name --define --format --like --preset -s --core -p --processes -l --length -d --distance -c --cycles -r --rounds --read-limit --write-limit --seed --capacity'
             kinds=('source' 'source')
             further='source'
             ;;
@@ -36,13 +36,13 @@ _koth_takes() {
             kinds=('source' 'source')
             ;;
         'show')
-            options='--to --timeout --matches --settings --with-seed --plain --table --format -h --help'
-            valued='--to --timeout --format'
+            options='--to --timeout --matches --settings --with-seed --entry --plain --table --format -h --help'
+            valued='--to --timeout --entry --format'
             kinds=('file')
             ;;
         'serve')
-            options='--port --peers --peers-per-address --steps --listen --connections --http --host --replays --title --peers-at --quiet --create -h --help --preset -s --core -p --processes -l --length -d --distance -c --cycles -r --rounds --read-limit --write-limit --seed --capacity'
-            valued='--port --peers --peers-per-address --steps --listen --connections --http --host --title --peers-at --preset -s --core -p --processes -l --length -d --distance -c --cycles -r --rounds --read-limit --write-limit --seed --capacity'
+            options='--port --peers --peers-per-address --steps --listen --connections --http --host --replays --title --peers-at --quiet --log-format --create -h --help --preset -s --core -p --processes -l --length -d --distance -c --cycles -r --rounds --read-limit --write-limit --seed --capacity'
+            valued='--port --peers --peers-per-address --steps --listen --connections --http --host --title --peers-at --log-format --preset -s --core -p --processes -l --length -d --distance -c --cycles -r --rounds --read-limit --write-limit --seed --capacity'
             kinds=('file')
             ;;
         'session')
@@ -64,18 +64,18 @@ _koth_takes() {
             kinds=('file')
             ;;
         'replay')
-            options='--name -o --output --round --lost --won --tied -h --help --like --preset -s --core -p --processes -l --length -d --distance -c --cycles -r --rounds --read-limit --write-limit --seed --capacity'
-            valued='--name -o --output --round --like --preset -s --core -p --processes -l --length -d --distance -c --cycles -r --rounds --read-limit --write-limit --seed --capacity'
+            options='--name --define -o --output --round --lost --won --tied -h --help --like --preset -s --core -p --processes -l --length -d --distance -c --cycles -r --rounds --read-limit --write-limit --seed --capacity'
+            valued='--name --define -o --output --round --like --preset -s --core -p --processes -l --length -d --distance -c --cycles -r --rounds --read-limit --write-limit --seed --capacity'
             kinds=('source' 'source')
             ;;
         'trace')
-            options='--name --round --lost --won --tied --last --format -h --help --like --preset -s --core -p --processes -l --length -d --distance -c --cycles -r --rounds --read-limit --write-limit --seed --capacity'
-            valued='--name --round --last --format --like --preset -s --core -p --processes -l --length -d --distance -c --cycles -r --rounds --read-limit --write-limit --seed --capacity'
+            options='--name --define --round --lost --won --tied --last --format -h --help --like --preset -s --core -p --processes -l --length -d --distance -c --cycles -r --rounds --read-limit --write-limit --seed --capacity'
+            valued='--name --define --round --last --format --like --preset -s --core -p --processes -l --length -d --distance -c --cycles -r --rounds --read-limit --write-limit --seed --capacity'
             kinds=('source' 'source')
             ;;
         'try')
-            options='--name --plain --table --format -h --help'
-            valued='--name --format'
+            options='--name --define --plain --table --format -h --help'
+            valued='--name --define --format'
             kinds=('file' 'source')
             ;;
         'copy')
@@ -88,10 +88,14 @@ _koth_takes() {
             kinds=('file' 'file')
             ;;
         'rank')
-            options='--name --both --plain --table --format -h --help --like --preset -s --core -p --processes -l --length -d --distance -c --cycles -r --rounds --read-limit --write-limit --seed --capacity'
-            valued='--name --format --like --preset -s --core -p --processes -l --length -d --distance -c --cycles -r --rounds --read-limit --write-limit --seed --capacity'
+            options='--name --both --matches --part --join --plain --table --format -h --help --like --preset -s --core -p --processes -l --length -d --distance -c --cycles -r --rounds --read-limit --write-limit --seed --capacity'
+            valued='--name --part --format --like --preset -s --core -p --processes -l --length -d --distance -c --cycles -r --rounds --read-limit --write-limit --seed --capacity'
             kinds=('source')
             further='source'
+            ;;
+        'explain')
+            options='-h --help'
+            kinds=('file')
             ;;
         'help')
             kinds=('command')
@@ -119,6 +123,7 @@ _koth_value() {
         'submit --like') kind='file' ;;
         'submit --preset') kind='94nop tiny nano' ;;
         'show --format') kind='text json' ;;
+        'serve --log-format') kind='text json' ;;
         'serve --preset') kind='94nop tiny nano' ;;
         'audit --format') kind='text json' ;;
         'replay -o') kind='file' ;;
@@ -158,7 +163,7 @@ _koth_read() {
 }
 
 _koth() {
-    local names='asm check fight create submit show serve session audit migrate page replay trace try copy reseed rank help'
+    local names='asm check fight create submit show serve session audit migrate page replay trace try copy reseed rank explain help'
     local word=${COMP_WORDS[COMP_CWORD]} options valued kinds further kind command='' owner='' ended='' count=0
     [[ $word == '=' ]] && word=''
     _koth_takes ''

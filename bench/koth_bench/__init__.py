@@ -6,12 +6,12 @@ from .checks import Checks, Given, say, script
 from .crates import crates
 from .hills import BOMBER, NAMES, Hill, create, warriors
 from .peer import Peer
-from .processes import PATIENCE, Result, children_seconds, kib_of, limit_memory, output_of, run, seconds_of
-from .program import NOT_TRIED, ROOT, SCRIPT, arguments, contents, data, write
+from .processes import PATIENCE, Result, children_seconds, kib_of, limit_memory, output_of, run, seconds_of, timed
+from .program import NOT_TRIED, ROOT, SCRIPT, arguments, contents, data, filled, text_of, write
 from .service import Service
 
 __all__ = [
     "BOMBER", "Checks", "Given", "Hill", "NAMES", "NOT_TRIED", "PATIENCE", "Peer", "ROOT", "Result", "SCRIPT",
-    "Service", "arguments", "children_seconds", "contents", "crates", "create", "data", "kib_of", "limit_memory",
-    "output_of", "pmars", "run", "say", "script", "seconds_of", "warriors", "write",
+    "Service", "arguments", "children_seconds", "contents", "crates", "create", "data", "filled", "kib_of",
+    "limit_memory", "output_of", "pmars", "run", "say", "script", "seconds_of", "text_of", "timed", "warriors", "write",
 ]

@@ -1,10 +1,10 @@
 """Counts what is as expected, and reports what is not."""
 
 import argparse
-import functools
 import os
 import subprocess
 import sys
+import tempfile
 import typing
 
 from .program import NOT_TRIED, ROOT, arguments, contents, write
@@ -40,19 +40,27 @@ class Checks:
         say(f"{what}: {fault or 'as expected'}")
         return not fault
 
-    def trial(self, what: str, trial: typing.Callable[[], str]) -> None:
-        """Counts a trial that returns its fault, or nothing. One that the system doesn't permit is not tried."""
-        try:
-            self.fault(what, trial())
-        except PermissionError as refused:
-            self.not_tried += 1
-            say(f"{what}: not tried: {refused}")
-        except (OSError, subprocess.SubprocessError, ValueError) as failure:
-            self.fault(what, repr(failure))
+    def trial(self, what: str, trial: typing.Callable[..., str], *given: object,
+              prepare: typing.Callable[..., object] | None = None) -> None:
+        """Counts a trial that returns its fault, or nothing. After what it is given comes a new folder, in which
+        `prepare` has made what it needs by the program, the last that is given. One that the system doesn't permit is
+        not tried."""
+        with tempfile.TemporaryDirectory() as place:
+            folder = os.path.realpath(place)
+            try:
+                if prepare:
+                    prepare(given[-1], folder)
+                self.fault(what, trial(*given, folder))
+            except PermissionError as refused:
+                self.not_tried += 1
+                say(f"{what}: not tried: {refused}")
+            except (OSError, subprocess.SubprocessError, ValueError) as failure:
+                self.fault(what, repr(failure))
 
-    def trials(self, trials: typing.Mapping[str, typing.Callable[..., str]], *given: object) -> None:
+    def trials(self, trials: typing.Mapping[str, typing.Callable[..., str]], *given: object,
+               prepare: typing.Callable[..., object] | None = None) -> None:
         for what, trial in trials.items():
-            self.trial(what, functools.partial(trial, *given))
+            self.trial(what, trial, *given, prepare=prepare)
 
     def made(self, path: str, text: str | bytes, is_written: bool) -> bool:
         """Counts whether this file, below the repository, is what the script makes. It is written first, if that is
@@ -83,12 +91,13 @@ Main = typing.Callable[[Checks, Given], object]
 def script(text: str | None, places: dict[str, type] | None = None, **options: typing.Any
            ) -> typing.Callable[[Main], Main]:
     """Runs the function below it, if the file is the script that is called: with checks, whose count ends the script,
-    and with what the script was given, by `arguments`."""
+    and with what the script was given, by `arguments`, and a new folder, as `room`."""
 
     def run_of(main: Main) -> Main:
         if main.__module__ == "__main__":
             checks, given = Checks(), arguments(text, places, **options)
-            main(checks, given)
+            with tempfile.TemporaryDirectory() as given.room:
+                main(checks, given)
             checks.end()
         return main
 

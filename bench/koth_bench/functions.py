@@ -4,7 +4,7 @@ import os
 import re
 import typing
 
-from .program import contents
+from .program import text_of
 
 FUNCTION = re.compile(r"( *)(pub(?:\(\w+\))? )?(?:unsafe )?(?:const )?fn (\w+)")
 HOLDER = re.compile(r"( *)(pub(?:\(\w+\))? )?(?:unsafe )?(impl|trait|mod)\b(.*)")
@@ -23,10 +23,6 @@ class Function(typing.NamedTuple):
     body: int
     last: int
     text: str
-
-
-def text_of(path: str) -> str:
-    return contents(path).decode(errors="replace")
 
 
 def files_below(folder: str, ending: str) -> list[str]:

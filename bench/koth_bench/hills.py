@@ -17,6 +17,11 @@ start ADD #{step}, bomb
       JMP start
       END start
 """
+# the settings of a small hill of two, whose matches have one round, two warriors that live on there, and its tables
+# with the first one and with both
+OF_TWO = ("--capacity", "2", "--rounds", "1", "--cycles", "100")
+FIRST, SECOND = (f";name {name}\nJMP 0\n" for name in ("First", "Second"))
+ONE, BOTH = "1 1 0 0 First by Anonymous\n.\n", "1 1 1 1 First by Anonymous\n2 2 1 0 Second by Anonymous\n.\n"
 Counts = tuple[int, int]  # rounds that a warrior won, and ties
 
 

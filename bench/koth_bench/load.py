@@ -6,11 +6,11 @@ import contextlib
 import random
 import re
 import socket
-import struct
 import time
 import typing
 
 from .checks import say
+from .peer import reset
 from .processes import kib_of
 from .service import Service
 
@@ -36,8 +36,14 @@ class Run:
     def goes_on(self) -> bool:
         return time.monotonic() < self.until
 
-    async def connect(self, port: int = 0) -> tuple[asyncio.StreamReader, asyncio.StreamWriter]:
-        return await asyncio.open_connection("127.0.0.1", port or self.port)
+    @contextlib.asynccontextmanager
+    async def connected(self, port: int = 0) -> typing.AsyncIterator[tuple[asyncio.StreamReader, asyncio.StreamWriter]]:
+        """A connection to this port, else to that of sessions, which is closed at the end."""
+        reader, writer = await asyncio.open_connection("127.0.0.1", port or self.port)
+        try:
+            yield reader, writer
+        finally:
+            writer.close()
 
     @contextlib.contextmanager
     def timed(self, what: str) -> typing.Iterator[None]:
@@ -69,41 +75,37 @@ async def table_of(reader: asyncio.StreamReader) -> list[bytes]:
 
 async def plain(run: Run, number: int) -> None:
     """Asks for tables now and then, and quits."""
-    reader, writer = await run.connect()
     chance = random.Random(number)
-    while run.goes_on():
-        await asyncio.sleep(chance.uniform(*run.pause))
-        with run.timed("a table"):
-            writer.write(b"SHOW\n")
-            rows = await table_of(reader)
-        run.odd += [f"plain peer {number}: {row!r}" for row in rows if not ROW.fullmatch(row)]
-    writer.write(b"QUIT\n")
-    if await reader.read():
-        run.odd.append(f"plain peer {number}: an answer to QUIT")
-    writer.close()
+    async with run.connected() as (reader, writer):
+        while run.goes_on():
+            await asyncio.sleep(chance.uniform(*run.pause))
+            with run.timed("a table"):
+                writer.write(b"SHOW\n")
+                rows = await table_of(reader)
+            run.odd += [f"plain peer {number}: {row!r}" for row in rows if not ROW.fullmatch(row)]
+        writer.write(b"QUIT\n")
+        if await reader.read():
+            run.odd.append(f"plain peer {number}: an answer to QUIT")
 
 
 async def submitting(run: Run, number: int) -> None:
-    reader, writer = await run.connect()
-    while run.goes_on():
-        number += SUBMITTERS
-        with run.timed("a submission"):
-            writer.write(b"SUBMIT\n" + run.source(number) + b".\n")
-            answer = await reader.readline()
-        if not ENTRY.fullmatch(answer):
-            run.odd.append(f"a submission: {answer!r}")
-            return
-    writer.close()
+    async with run.connected() as (reader, writer):
+        while run.goes_on():
+            number += SUBMITTERS
+            with run.timed("a submission"):
+                writer.write(b"SUBMIT\n" + run.source(number) + b".\n")
+                answer = await reader.readline()
+            if not ENTRY.fullmatch(answer):
+                run.odd.append(f"a submission: {answer!r}")
+                return
 
 
 async def page_of(run: Run, path: bytes) -> bytes:
     """The answer to a browser that asks for this."""
     with run.timed("a page"):
-        reader, writer = await run.connect(run.service.pages)
-        writer.write(b"GET %s HTTP/1.1\r\nHost: localhost\r\n\r\n" % path)
-        page = await reader.read()
-        writer.close()
-    return page
+        async with run.connected(run.service.pages) as (reader, writer):
+            writer.write(b"GET %s HTTP/1.1\r\nHost: localhost\r\n\r\n" % path)
+            return await reader.read()
 
 
 async def reading(run: Run, number: int) -> None:
@@ -134,16 +136,15 @@ def repeating(sent: bytes, expected: bytes, count: int) -> Kind:
     expected."""
 
     async def repeating_peer(run: Run, _number: int) -> None:
-        reader, writer = await run.connect()
-        writer.write(sent * count)
-        while run.goes_on():
+        async with run.connected() as (reader, writer):
             writer.write(sent * count)
-            answers = await reader.readexactly(len(expected) * count)
-            if answers != expected * count:
-                run.odd.append(f"{sent[:20]!r}: {answers[:60]!r}")
-                return
-            run.came["answers to the other peers"] += count
-        writer.close()
+            while run.goes_on():
+                writer.write(sent * count)
+                answers = await reader.readexactly(len(expected) * count)
+                if answers != expected * count:
+                    run.odd.append(f"{sent[:20]!r}: {answers[:60]!r}")
+                    return
+                run.came["answers to the other peers"] += count
 
     return repeating_peer
 
@@ -154,12 +155,11 @@ def assembling(texts: list[str]) -> Kind:
     async def assembling_peer(run: Run, number: int) -> None:
         while run.goes_on():
             number += 1
-            reader, writer = await run.connect()
             with contextlib.suppress(ConnectionError):
-                writer.write(b"SUBMIT\n" + texts[7 * number % len(texts)].encode() + b".\nQUIT\n")
-                answer = await reader.read()
-                run.came[f"of the others {answer.decode().split(' ')[0].strip() or 'ended'}"] += 1
-            writer.close()
+                async with run.connected() as (reader, writer):
+                    writer.write(b"SUBMIT\n" + texts[7 * number % len(texts)].encode() + b".\nQUIT\n")
+                    answer = await reader.read()
+                    run.came[f"of the others {answer.decode().split(' ')[0].strip() or 'ended'}"] += 1
 
     return assembling_peer
 
@@ -168,25 +168,23 @@ async def silent(run: Run, _number: int) -> None:
     """Connects and says nothing, and comes again."""
     while run.goes_on():
         began = time.monotonic()
-        reader, writer = await run.connect()
-        if await reader.read():
-            run.odd.append("a silent peer was told something")
+        async with run.connected() as (reader, _):
+            if await reader.read():
+                run.odd.append("a silent peer was told something")
         if run.goes_on() and not 59 < time.monotonic() - began < 75:
             run.odd.append(f"a silent peer was let go after {time.monotonic() - began:.0f} seconds")
         run.came["silent peers let go"] += 1
-        writer.close()
 
 
 async def slow(run: Run, _number: int) -> None:
     """Sends `SHOW` a byte a second."""
-    reader, writer = await run.connect()
-    while run.goes_on():
-        for byte in b"SHOW\n":
-            writer.write(bytes([byte]))
-            await asyncio.sleep(1)
-        await table_of(reader)
-        run.came["tables of slow peers"] += 1
-    writer.close()
+    async with run.connected() as (reader, writer):
+        while run.goes_on():
+            for byte in b"SHOW\n":
+                writer.write(bytes([byte]))
+                await asyncio.sleep(1)
+            await table_of(reader)
+            run.came["tables of slow peers"] += 1
 
 
 async def sends(run: Run, peer: socket.socket, data: bytes) -> None:
@@ -204,11 +202,10 @@ async def deaf(run: Run, _number: int) -> None:
 
 
 async def endless(run: Run, _number: int) -> None:
-    _, writer = await run.connect()
-    for _ in range(512):
-        writer.write(b"x" * 65536)
-        await writer.drain()
-    writer.close()
+    async with run.connected() as (_, writer):
+        for _ in range(512):
+            writer.write(b"x" * 65536)
+            await writer.drain()
 
 
 async def resetting(run: Run, number: int) -> None:
@@ -216,7 +213,7 @@ async def resetting(run: Run, number: int) -> None:
     with socket.socket() as peer:
         await sends(run, peer, b"SHOW\n" * 50)
         await asyncio.sleep(0.05 * (number % 3))
-        peer.setsockopt(socket.SOL_SOCKET, socket.SO_LINGER, struct.pack("ii", 1, 0))
+        reset(peer)
 
 
 async def hostile(run: Run, number: int) -> None:

@@ -10,6 +10,12 @@ PATIENCE = 20.0  # seconds that a peer waits for more of an answer
 BLOCK = 65536
 
 
+def reset(one: socket.socket) -> None:
+    """Closes a connection so that the other side meets a reset."""
+    one.setsockopt(socket.SOL_SOCKET, socket.SO_LINGER, struct.pack("ii", 1, 0))
+    one.close()
+
+
 class Peer:
     """A connection to a port of this machine. A reset ends it, and so does nothing for its patience, in seconds."""
 
@@ -104,8 +110,7 @@ class Peer:
         return self
 
     def reset(self) -> None:
-        self.socket.setsockopt(socket.SOL_SOCKET, socket.SO_LINGER, struct.pack("ii", 1, 0))
-        self.close()
+        reset(self.socket)
 
     def is_closed(self) -> bool:
         """Whether the other side has ended the connection and sent nothing before."""

@@ -30,6 +30,13 @@ def fight(program: str, rounds: int, first: str, second: str, *more: str, positi
     return [program, "-b", "-k", *more, "-r", str(rounds), "-F", str(position), first, second]
 
 
+def match(program: str, koth: str, older: str, younger: str, rounds: int = 1, cycles: int = 80000) -> list[str]:
+    """The command by which the program, koth or pMARS, plays a match under the usual settings."""
+    if program != koth:
+        return fight(program, rounds, older, younger, "-c", str(cycles))
+    return [koth, "fight", older, younger, *f"--rounds {rounds} --cycles {cycles} --seed {SEED}".split()]
+
+
 def counts(output: str) -> list[Counts]:
     """The counts of matches of pMARS, which prints two lines each: a warrior's wins, and the ties."""
     rows = [tuple(map(int, line.split())) for line in output.splitlines() if re.fullmatch(r"\d+ \d+", line)]
@@ -56,3 +63,9 @@ def instructions(command: list[str]) -> int | None:
         return None
     found = re.search(r"I +refs: +([0-9,]+)", done.stderr)
     return int(found[1].replace(",", "")) if found and not done.returncode else None
+
+
+def of_a_turn(program: str, koth: str, older: str, younger: str, turns: int, cycles: int = 80000) -> float | None:
+    """The instructions that a turn takes in a round of these turns, without those of a round of one cycle."""
+    long, short = (instructions(match(program, koth, older, younger, 1, it)) for it in (cycles, 1))
+    return None if long is None or short is None else (long - short) / max(turns - 2, 1)

@@ -1,9 +1,12 @@
 """Runs commands, and reads what they and the processes of a service take."""
 
 import os
+import re
 import resource
 import subprocess
 import typing
+
+from .program import text_of
 
 PATIENCE = 60.0  # seconds for a command
 
@@ -16,7 +19,7 @@ class Result(typing.NamedTuple):
     errors: str
 
 
-def run(*command: str, folder: str | None = None, seconds: float = PATIENCE, **options: typing.Any) -> Result:
+def run(*command: str, folder: str | None = None, seconds: float | None = PATIENCE, **options: typing.Any) -> Result:
     """Runs a command in a folder, without input unless an option of `subprocess.run` gives some."""
     if "input" not in options:
         options.setdefault("stdin", subprocess.DEVNULL)
@@ -39,6 +42,12 @@ def children_seconds() -> float:
     return took.ru_utime + took.ru_stime
 
 
+def timed(*command: str, folder: str | None = None) -> tuple[str, float]:
+    """What a command prints, and the seconds of processors that it takes."""
+    before = children_seconds()
+    return output_of(*command, folder=folder, seconds=600), children_seconds() - before
+
+
 def seconds_of(process: int) -> float:
     """The seconds of processors, user and system, of a process that runs."""
     with open(f"/proc/{process}/stat", encoding="ascii", errors="replace") as file:
@@ -53,6 +62,12 @@ def kib_of(process: int, field: str) -> int:
     if field not in fields:
         raise ProcessLookupError(f"process {process} has no {field}")
     return int(fields[field].split()[0])
+
+
+def free_memory() -> int:
+    """The KiB of memory that the system has free."""
+    found = re.search(r"MemAvailable:\s+(\d+)", text_of("/proc/meminfo"))
+    return int(found[1]) if found else 0
 
 
 def limit_memory(kib: int) -> None:

@@ -46,10 +46,12 @@ def arguments(text: str | None, places: dict[str, type] | None = None, koth: typ
     return given
 
 
-def write(path: str, content: str | bytes) -> str:
+def write(path: str, content: str | bytes, mode: int | None = None) -> str:
     os.makedirs(os.path.dirname(path) or ".", exist_ok=True)
     with open(path, "wb") as file:
         file.write(content.encode() if isinstance(content, str) else content)
+    if mode is not None:
+        os.chmod(path, mode)
     return path
 
 
@@ -58,5 +60,17 @@ def contents(path: str) -> bytes:
         return file.read()
 
 
+def text_of(path: str) -> str:
+    return contents(path).decode(errors="replace")
+
+
 def data(name: str) -> str:
-    return contents(f"{ROOT}/bench/data/{name}").decode()
+    return text_of(f"{ROOT}/bench/data/{name}")
+
+
+def filled(name: str, **parts: str) -> str:
+    """A text of bench/data, with these parts at their marks, `@NAME@`."""
+    text = data(name)
+    for mark, part in parts.items():
+        text = text.replace(f"@{mark}@", part)
+    return text

@@ -11,7 +11,7 @@ import urllib.request
 
 from .peer import PATIENCE, Peer
 
-PAGES = re.compile(r"\S+ pages at (http://127\.0\.0\.1:(\d+)/)\n")
+PAGES = re.compile(r".*\bpages\b.*(http://127\.0\.0\.1:(\d+)/).*\n")  # in the log, as text and as an object
 LOGGED = re.compile(r"\S+ 127\.0\.0\.1:(\d+): (.*)")
 TITLED = re.compile(r'(PLACED \d+ \d+ \d+) ".*')
 
@@ -32,6 +32,7 @@ class Service:
             log_of_it = self.process.communicate(timeout=PATIENCE)[1]
             raise OSError(f"koth serve {' '.join(flags)} ended with {self.process.returncode}: {log_of_it}")
         self.port, self.log, self.output, self.address, self.pages = int(line.split()[1]), "", "", "", 0
+        self.peers: list[Peer] = []
         while "--http" in flags and not self.pages and self.process.stderr and (line := self.process.stderr.readline()):
             self.log += line
             if found := PAGES.fullmatch(line):
@@ -41,15 +42,19 @@ class Service:
         return self
 
     def __exit__(self, *_: object) -> None:
-        """Ends it, at once if it doesn't by itself."""
+        """Ends it, at once if it doesn't by itself, and closes all connections to it."""
         if self.process.poll() is None:
             self.end()
+        for peer in self.peers:
+            peer.close()
 
     def connect(self, address: str = "127.0.0.1", patience: float = PATIENCE) -> Peer:
-        return Peer(self.port, address, patience)
+        self.peers.append(Peer(self.port, address, patience))
+        return self.peers[-1]
 
     def browse(self, address: str = "127.0.0.1") -> Peer:
-        return Peer(self.pages, address)
+        self.peers.append(Peer(self.pages, address))
+        return self.peers[-1]
 
     def answers(self, sent: bytes) -> bytes:
         """What a peer that sends these bytes is answered until its connection is closed."""

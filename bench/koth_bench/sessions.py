@@ -20,9 +20,9 @@ from . import peer
 from .checks import say
 from .grammar import Grammar
 from .processes import kib_of, run
-from .program import contents, write
+from .program import contents, text_of, write
 from .rows import rows
-from .service import Service
+from .service import Service, by_port, untitled
 
 SECTOR = 512
 CORE, ROUNDS, CAPACITY, LENGTH, DISTANCE, HILL_SEED = 800, 4, 10, 20, 20, 20261122
@@ -44,10 +44,9 @@ REFUSED = rows("load_refused")["refused"]
 
 
 class Source(typing.NamedTuple):
-    """A source, what stands for its title in a table, and the line of its refusal if it is no warrior."""
+    """A source, and the line of its refusal if it is no warrior."""
 
     text: bytes
-    title: bytes
     refusal: bytes
 
 
@@ -72,7 +71,7 @@ class Connection:
 
     def __init__(self, kind: str, commands: list[Command], way: str = "", served: bool = False) -> None:
         self.kind, self.commands, self.way, self.served = kind, commands, way, served
-        self.number, self.is_mark, self.transcript, self.part = 0, False, b"", b""
+        self.number, self.port, self.is_mark, self.transcript, self.part = 0, 0, False, b"", b""
         self.answers: list[bytes] = []
 
     def sources(self) -> list[Source]:
@@ -98,8 +97,7 @@ class Maker:
         self.made += 1
         name = WARRIORS.make(self.random, "name") % (self.number, self.made)
         author = WARRIORS.make(self.random, "author")
-        text = b";name %b\n;author %b\n%b" % (name, author, body)
-        return Source(text, b"%b by %b" % (name, author or b"Anonymous"), refusal)
+        return Source(b";name %b\n;author %b\n%b" % (name, author, body), refusal)
 
     def warrior(self) -> Source:
         is_shooter = self.random.random() < 0.4
@@ -132,9 +130,6 @@ class Maker:
         found.part = text[: chance.choice(ends)]
         return found
 
-    def any_connection(self) -> Connection:
-        return self.connection(self.random.choices(list(SHARES), list(SHARES.values()))[0])
-
 
 def plan(seed: int, submissions: int) -> list[Connection]:
     """The connections until this number of sources were sent. Those at which sizes are taken are plain, and the last is
@@ -142,7 +137,8 @@ def plan(seed: int, submissions: int) -> list[Connection]:
     made: list[Connection] = []
     count = 0
     while count < submissions:
-        made.append(Maker(seed, len(made)).any_connection())
+        maker = Maker(seed, len(made))
+        made.append(maker.connection(maker.random.choices(list(SHARES), list(SHARES.values()))[0]))
         count += len(made[-1].sources()) + (made[-1].kind == "cut")
     for quarter in range(1, 5):
         at = max(len(made) * quarter // 4 - 1, 0)
@@ -189,34 +185,27 @@ class Peer(peer.Peer):
         self.random = random.Random(connection.number)
         super().__init__(port, patience=PATIENCE, room=4096 if connection.kind == "deaf" else 0)
         self.socket.setsockopt(socket.IPPROTO_TCP, socket.TCP_NODELAY, 1)
+        connection.port = self.port
 
-    def read_answers(self, count: int) -> None:
-        """Reads until this number of commands are answered, or there is a line that is no answer, or no more."""
-        while True:
-            answers, wrong = answers_in(self.connection.commands[:count], self.connection.transcript)
-            if len(answers) == count or wrong is not None or not (part := self.socket.recv(65536)):
-                return
-            self.connection.transcript += part
+    def hear(self, count: int | None = None) -> None:
+        """Reads until this number of commands are answered or there is a line that is no answer; else to the end."""
+        it = self.connection
 
-    def read_all(self) -> None:
-        parts = []
-        try:
-            while part := self.socket.recv(65536):
-                parts.append(part)
-        finally:
-            self.connection.transcript += b"".join(parts)
+        def is_whole(found: bytes) -> bool:
+            if count is None:
+                return False
+            answers, wrong = answers_in(it.commands[:count], it.transcript + found)
+            return len(answers) == count or wrong is not None
 
-    def wait_for_answer(self, seconds: tuple[float, float] = (0, 0)) -> None:
-        """Waits until something of an answer is there, leaves it, and waits for some of these seconds."""
-        if not select.select([self.socket], [], [], PATIENCE)[0]:
-            raise TimeoutError("nothing came")
-        time.sleep(self.random.uniform(*seconds))
+        it.transcript += self.read(is_whole)
+        if self.is_late or self.is_gone:
+            raise TimeoutError("nothing came") if self.is_late else ConnectionError("it was reset")
 
     def leave(self) -> None:
         """Goes away as it is to do, and at once if that is by a reset."""
         if self.connection.way == "end":
             self.finish()
-            self.read_all()
+            self.hear()
         if self.connection.way == "reset":
             self.reset()
         else:
@@ -229,11 +218,11 @@ class Peer(peer.Peer):
         for piece in [text[at : at + 1] for at in range(len(text))] if is_slow else [text]:
             self.send(piece)
             time.sleep(delay)
-        self.read_answers(place + 1)
+        self.hear(place + 1)
 
     def talk(self) -> None:
         it = self.connection
-        with self.socket:
+        with self:
             if it.kind in ("plain", "slow"):
                 for place, command in enumerate(it.commands):
                     self.say(command, place, it.kind == "slow" and isinstance(command, Source))
@@ -250,61 +239,59 @@ class Peer(peer.Peer):
                 self.send(it.part)
             else:
                 self.send(sent(it.commands[0]) + SHOW * TABLES * (it.kind in ("late", "deaf")))
-                if it.kind != "gone" or it.served:
-                    self.wait_for_answer((0, 0) if it.kind == "gone" else (1, 1.5))
-                if it.kind == "late":
-                    self.send(QUIT)
+                self.wait(it)
             if it.kind in ("plain", "slow", "piped", "late"):
-                self.read_all()
+                self.hear()
             else:
                 self.leave()
         if it.kind == "late":
-            self.keep_one_table()
+            # all tables but the first are dropped if they are the same, and as many as were asked for
+            line, _, tables = it.transcript.partition(b"\n")
+            first = tables[: len(tables) // TABLES]
+            it.transcript = line + b"\n" + first if first * TABLES == tables else it.transcript
 
-    def keep_one_table(self) -> None:
-        """Drops all tables but the first if they are the same, as they are to be, and as many as were asked for."""
-        line, _, tables = self.connection.transcript.partition(b"\n")
-        first = tables[: len(tables) // TABLES]
-        if first * TABLES == tables:
-            self.connection.transcript = line + b"\n" + first
+    def wait(self, it: Connection) -> None:
+        """Waits until something of an answer is there, and leaves it; one that reads late waits for a second more."""
+        if it.kind == "gone" and not it.served:
+            return
+        if not select.select([self.socket], [], [], PATIENCE)[0]:
+            raise TimeoutError("nothing came")
+        if it.kind != "gone":
+            time.sleep(self.random.uniform(1, 1.5))
+        if it.kind == "late":
+            self.send(QUIT)
 
 
-class Program:
-    """Runs the program in a folder, and counts what is odd."""
+class Load:
+    """A folder with the program, a service and the connections to it, which several threads take one after the other;
+    and how much of what comes is odd."""
 
     def __init__(self, given: argparse.Namespace, folder: str) -> None:
-        self.path, self.memory, self.folder = given.koth, given.memory, folder
-        self.lock, self.odd = threading.Lock(), 0
+        self.given, self.folder, self.lock = given, folder, threading.Lock()
+        self.connections = plan(given.random, given.submissions)
+        self.odd, self.begun, self.is_over, self.sizes = 0, 0, False, list[tuple[int, int, int]]()
+        limited = ["sh", "-c", 'ulimit -v "$0" && exec "$@"', str(given.memory)]
+        flags = ("--peers", "1", "--connections", str(len(self.connections)))
+        self.expect("CREATED\n", "create", "served", *SETTINGS)
+        # to a file, so that no line of it is dropped
+        with open(f"{folder}/log", "wb") as log:
+            self.service = Service(given.koth, "served", *flags, folder=folder, log=log.fileno(), before=limited,
+                                   memory=given.memory)
 
     def tell(self, what: str, connection: Connection | None = None) -> None:
         with self.lock:
             self.odd += 1
             say(f"connection {connection.number}, {connection.kind}: {what}" if connection else what)
 
-    def expect(self, expected: str, *words: str) -> None:
-        if (said := self.run(*words)) != expected.encode():
-            self.tell(f"{words[0]} says {said!r}")
-
-    def run(self, *words: str) -> bytes:
+    def ran(self, *words: str) -> bytes:
         """What a command writes, and then its standard error."""
-        done = run(self.path, *words, folder=self.folder, text=False, capture_output=False, stdout=subprocess.PIPE,
-                   stderr=subprocess.STDOUT)
+        done = run(self.given.koth, *words, folder=self.folder, text=False, capture_output=False,
+                   stdout=subprocess.PIPE, stderr=subprocess.STDOUT)
         return typing.cast(bytes, done.output)
 
-    def serve(self, hill: str, connections: int) -> Service:
-        limited = ["sh", "-c", 'ulimit -v "$0" && exec "$@"', str(self.memory)]
-        flags = ("--quiet", "--peers", "1", "--connections", str(connections))
-        return Service(self.path, hill, *flags, folder=self.folder, before=limited, memory=self.memory)
-
-
-class Load:
-    """The service, and the connections to it, which several threads take one after the other."""
-
-    def __init__(self, program: Program, connections: list[Connection], hill: str) -> None:
-        self.program, self.connections = program, connections
-        self.sizes: list[tuple[int, int, int]] = []
-        self.service = program.serve(hill, len(connections))
-        self.lock, self.begun, self.is_over = threading.Lock(), 0, False
+    def expect(self, expected: str, *words: str) -> None:
+        if (said := self.ran(*words)) != expected.encode():
+            self.tell(f"{words[0]} says {said!r}")
 
     def next(self) -> Peer | None:
         """The next connection, made before any later one, so that they are served in the order of their numbers;
@@ -314,12 +301,7 @@ class Load:
                 return None
             connection = self.connections[self.begun]
             self.begun += 1
-            try:
-                found = Peer(connection, self.service.port, self.weigh)
-            except OSError as fault:
-                self.is_over = True
-                self.program.tell(f"didn't connect: {fault!r}", connection)
-                return None
+            found = Peer(connection, self.service.port, self.weigh)
             # by then the service's side of it waits after those before it
             time.sleep(0.001)
             return found
@@ -328,12 +310,9 @@ class Load:
         while found := self.next():
             try:
                 found.talk()
-            except TimeoutError as fault:
-                self.is_over = True
-                self.program.tell(f"waited too long: {fault}", found.connection)
             except OSError as fault:
-                self.is_over |= self.service.process.poll() is not None
-                self.program.tell(f"{fault!r} after {found.connection.transcript[-80:]!r}", found.connection)
+                self.is_over |= isinstance(fault, TimeoutError) or self.service.process.poll() is not None
+                self.tell(f"{fault!r} after {found.connection.transcript[-80:]!r}", found.connection)
             self.look_at(found.connection)
 
     def look_at(self, it: Connection) -> None:
@@ -341,38 +320,68 @@ class Load:
         count = f"{len(it.answers)} of {len(it.commands)}"
         reads_all = it.way not in ("close", "reset")
         if wrong is not None:
-            self.program.tell(f"answered {wrong!r} after {count} answers", it)
+            self.tell(f"answered {wrong!r} after {count} answers", it)
         elif reads_all and b"".join(it.answers) != it.transcript:
-            self.program.tell(f"a part of an answer: {it.transcript[-80:]!r}", it)
+            self.tell(f"a part of an answer: {it.transcript[-80:]!r}", it)
         elif reads_all and len(it.answers) != len(it.commands):
-            self.program.tell(f"answered {count} commands", it)
+            self.tell(f"answered {count} commands", it)
         for command, answer in zip(it.commands, it.answers):
             if command == SHOW and not is_table(answer):
-                self.program.tell(f"a table out of order: {answer!r}", it)
+                self.tell(f"a table out of order: {answer!r}", it)
 
     def weigh(self, connection: Connection) -> None:
         process = self.service.process.pid
         self.sizes.append((connection.number, kib_of(process, "VmRSS"), kib_of(process, "VmHWM")))
 
-    def run(self, peers: int) -> None:
-        """Has this number of peers connect, waits for the end of the service, and looks at how it ended and has
-        grown."""
+    def run(self) -> None:
+        """Has the peers connect, waits for the end of the service, and looks at how it ended and has grown."""
         try:
-            with concurrent.futures.ThreadPoolExecutor(peers) as pool:
-                for running in [pool.submit(self.peers) for _ in range(peers)]:
+            with concurrent.futures.ThreadPoolExecutor(self.given.peers) as pool:
+                for running in [pool.submit(self.peers) for _ in range(self.given.peers)]:
                     running.result()
             if not self.is_over:
                 self.service.process.wait(PATIENCE)
-        except subprocess.TimeoutExpired:
-            self.program.tell("the service goes on behind the last connection")
+        except (OSError, subprocess.TimeoutExpired) as fault:
+            self.is_over = True
+            self.tell(f"a peer doesn't connect, or the service goes on behind the last one: {fault!r}")
         finally:
             self.service.process.kill()
-        errors, output, status = self.service.wait(), self.service.output, self.service.process.returncode
-        if (status, output, errors) != (0, "", ""):
-            self.program.tell(f"the service ended with {status}, {output!r}, {errors!r}")
+        self.service.wait()
+        if (status := self.service.process.returncode) or self.service.output:
+            self.tell(f"the service ended with {status}, {self.service.output!r}")
         grown = [last - first for first, last in zip(self.sizes[0][1:], self.sizes[-1][1:])] if self.sizes else []
         if max(grown, default=0) > GROWTH:
-            self.program.tell(f"the service has grown by {grown[0]} KiB, and the most that it was by {grown[1]} KiB")
+            self.tell(f"the service has grown by {grown[0]} KiB, and the most that it was by {grown[1]} KiB")
+
+    def again(self) -> int:
+        """Submits once more what was judged, by commands, in the order in which it was served, and compares all that
+        was answered, and the hill. Returns how many were stored without an answer."""
+        text, stored, table = text_of(f"{self.folder}/log"), 0, b""
+        logged = by_port(text)
+        if sum(map(len, logged.values())) != text.count("\n"):
+            self.tell(f"the log has lines of no connection: {text[-80:]!r}")
+        self.expect("CREATED\n", "create", "replayed", *SETTINGS)
+        for it in self.connections:
+            lines = logged.get(it.port, [])
+            # (a later connection may have the same port)
+            end = next((at for at, line in enumerate(lines, 1) if line.startswith("ended")), len(lines))
+            judged = [line for line in map(untitled, lines[:end]) if line.startswith(("PLACED ", "FELL ", "REFUSED "))]
+            del lines[:end]
+            for command, answer in itertools.zip_longest(it.commands, it.answers):
+                due, said = answer, judged.pop(0) if isinstance(command, Source) and judged else ""
+                if isinstance(command, Source) and said and not command.refusal:
+                    write(f"{self.folder}/source", command.text)
+                    due, table, stored = self.ran("submit", "replayed", "source"), b"", stored + (answer is None)
+                    answer = answer or said.encode() + b"\n"
+                elif command == SHOW and answer:
+                    due = table = table or self.ran("show", "replayed")
+                if answer != due:
+                    self.tell(f"answered {answer!r}, and one after another {due!r}", it)
+        one, other = (contents(f"{self.folder}/{name}") for name in ("served", "replayed"))
+        if one != other:
+            at = len(os.path.commonprefix([one, other]))
+            self.tell(f"sector {at // SECTOR} of the hill is not what its submissions earn")
+        return stored
 
     def report(self, stored: int | str, seconds: float) -> None:
         begun = self.connections[: self.begun]
@@ -390,111 +399,19 @@ class Load:
             say(f"at connection {number}: {size} KiB resident, {most} KiB at most")
 
 
-Answered = tuple[Connection, Command, bytes | None]
-
-
-def entry_of(answer: bytes | None) -> int | None:
-    """The entry that an answer names, or nothing."""
-    return int(answer.split()[1]) if answer and ENTRY.match(answer) else None
-
-
-def groups(connections: list[Connection]) -> typing.Iterator[list[Answered]]:
-    """Commands in the order in which they were served, each with its answer if it has one, cut after each answer that
-    names an entry."""
-    group: list[Answered] = []
-    for connection in connections:
-        for command, answer in itertools.zip_longest(connection.commands, connection.answers):
-            group.append((connection, command, answer))
-            if entry_of(answer):
-                yield group
-                group = []
-    if group:
-        yield group
-
-
-class Replay:
-    """The answered submissions once more, and those that were stored without an answer, each by a command."""
-
-    def __init__(self, program: Program, hill: str, connections: list[Connection]) -> None:
-        self.program, self.hill, self.connections = program, hill, connections
-        self.table, self.last, self.stored = b"", 0, 0
-        tables = [answer for it in connections for command, answer in zip(it.commands, it.answers) if command == SHOW]
-        rows = (line.split(b" ", 4) for table in tables for line in table.split(b"\n")[:-2])
-        self.titles = {int(row[1]): row[4] for row in rows}  # of each entry that any table has shown
-        program.expect("CREATED\n", "create", hill, *SETTINGS)
-
-    def play(self, group: list[Answered], stored: tuple[Source, ...]) -> str:
-        """Plays a group in which these of its sources were stored without an answer. Says what comes out otherwise than
-        it was answered, or nothing."""
-        for _, command, answer in group:
-            if isinstance(command, Source) and (command in stored or entry_of(answer)):
-                self.table = b""
-                write(f"{self.program.folder}/source", command.text)
-                due = self.program.run("submit", self.hill, "source")
-            elif command == SHOW and answer:
-                due = self.table = self.table or self.program.run("show", self.hill)
-            else:
-                continue
-            if answer and answer != due:
-                return f"answered {answer!r}, and one after another {due!r}"
-        return ""
-
-    def has_titles(self, stored: tuple[Source, ...]) -> bool:
-        """Whether the next entries may be those of these sources, by the titles of the tables."""
-        return all(self.titles.get(entry, it.title) == it.title for entry, it in enumerate(stored, self.last + 1))
-
-    def fill(self, group: list[Answered], missing: int) -> str:
-        """Plays a group in which this number of entries was answered to nobody. Says what is wrong, or nothing."""
-        unread = [it for _, it, answer in group if isinstance(it, Source) and not it.refusal and not answer]
-        wrong = f"{missing} entries before it were answered to nobody"
-        wrong += f", and {len(unread)} sources don't fit, by number or title"
-        if missing < 0:
-            return wrong
-        path = f"{self.program.folder}/{self.hill}"
-        before = contents(path)
-        for stored in filter(self.has_titles, itertools.combinations(unread, missing)):
-            if not (wrong := self.play(group, stored)):
-                break
-            self.table = b""
-            write(path, before)
-        return wrong
-
-    def run(self) -> bool:
-        """Plays all groups, up to the first one in which something comes out otherwise: whether there is none."""
-        for group in groups(self.connections):
-            entry = entry_of(group[-1][2])
-            missing = entry - self.last - 1 if entry else 0
-            if wrong := self.fill(group, missing):
-                self.program.tell(wrong, group[-1][0])
-                return False
-            self.last, self.stored = entry or self.last, self.stored + missing
-        return True
-
-
 def tried(given: argparse.Namespace) -> bool:
     """Serves the connections, looks at the hill after them, and returns whether nothing is odd. Else keeps the hills,
     and what was sent and answered."""
-    folder = tempfile.mkdtemp(prefix="load.")
-    program = Program(given, folder)
-    program.expect("CREATED\n", "create", "served", *SETTINGS)
-    load = Load(program, plan(given.random, given.submissions), "served")
+    load = Load(given, tempfile.mkdtemp(prefix="load."))
     began = time.monotonic()
-    load.run(given.peers)
-    seconds, stored = time.monotonic() - began, "an unknown number"
-    program.expect("true\n", "audit", "served")
-    if not load.is_over:
-        replay = Replay(program, "replayed", load.connections)
-        if replay.run():
-            stored = str(replay.stored)
-            one, other = (contents(f"{folder}/{name}") for name in ("served", "replayed"))
-            at = len(os.path.commonprefix([one, other]))
-            if one != other:
-                program.tell(f"sector {at // SECTOR} of the hill is not what its submissions earn")
-    load.report(stored, seconds)
-    if not program.odd:
-        shutil.rmtree(folder)
+    load.run()
+    seconds = time.monotonic() - began
+    load.expect("true\n", "audit", "served")
+    load.report("an unknown number" if load.is_over else load.again(), seconds)
+    if not load.odd:
+        shutil.rmtree(load.folder)
         return True
     record = [(it.number, it.kind, it.way, it.served, *it.sources(), it.transcript) for it in load.connections]
-    write(f"{folder}/record", "".join("\t".join(map(str, it)) + "\n" for it in record))
-    say(f"{program.odd} oddities; the hills are kept in {folder}")
+    write(f"{load.folder}/record", "".join("\t".join(map(str, it)) + "\n" for it in record))
+    say(f"{load.odd} oddities; the hills are kept in {load.folder}")
     return False

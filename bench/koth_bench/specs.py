@@ -60,11 +60,6 @@ def words(text: str) -> set[str]:
     return set(WORD.findall("\n".join(line.partition("--")[0].partition("//")[0] for line in text.split("\n"))))
 
 
-def is_named(name: str, found: set[str]) -> bool:
-    signs = [sign for sign in name.split("◌") if sign]
-    return all(sign in found for sign in signs)
-
-
 def blocks_of(text: str) -> dict[str, tuple[int, str]]:
     """The definitions of a file: each name with its line and all that is said of it."""
     found: dict[str, tuple[int, str]] = {}
@@ -108,4 +103,5 @@ class Definitions:
 
 def named_in(found: set[str], meant: Meant) -> list[Key]:
     """Of what names stand for all that these words name."""
-    return [key for name, keys in meant.items() if is_named(name, found) for key in keys]
+    # (a name with places for operands is there by its signs)
+    return [key for name, keys in meant.items() if all(it in found for it in name.split("◌") if it) for key in keys]

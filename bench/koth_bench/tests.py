@@ -8,7 +8,7 @@ import tempfile
 import typing
 import unittest
 
-from . import checks, pmars, rows
+from . import checks, judgements, pmars, rows
 from .crates import crates
 from .functions import applied, constant_at, functions_in
 from .hills import Hill
@@ -57,23 +57,42 @@ class Checked(unittest.TestCase):
         self.assertTrue(last.endswith(": 1 as expected, 1 not"), last)
 
     def test_what_is_not_permitted_is_not_tried(self) -> None:
-        def refused() -> str:
+        def refused(_: str) -> str:
             raise PermissionError("strace")
 
         for fault, status in (("", NOT_TRIED), ("wrong", 1)):
 
             def trials(it: checks.Checks, fault: str = fault) -> None:
-                it.trial("a", lambda: fault)
+                it.trial("a", lambda _: fault)
                 it.trial("b", refused)
 
             self.assertEqual(told(trials)[0], status)
 
     def test_a_trial_that_fails_is_no_end(self) -> None:
-        def fails() -> str:
+        def fails(_: str) -> str:
             raise OSError("no service")
 
         status, output = told(lambda it: it.trial("a", fails))
         self.assertEqual((status, "no service" in output), (1, True))
+
+
+class Judged(unittest.TestCase):
+    """What is compared with a judgement."""
+
+    def test_places_kinds_and_words(self) -> None:
+        judged = judgements.judgements("1:5+1 | 1:5+3 BadToken\nhas a | b\nlacks c\n0 warning\n")
+        for told in ("1:5+1 BadToken: a", "1:5+3 BadToken: b"):
+            self.assertEqual(judgements.fault(judged, [told, "0:1+1 warning: Any: c"]), "")
+        for told in ("1:4+1 BadToken: a", "1:5+1 BadEqu: a", "1:5+1 BadToken: d", "1:5+1 BadToken: a c", "1:5 a"):
+            self.assertTrue(judgements.fault(judged, [told, "0:1+1 warning: Any: c"]), told)
+        self.assertTrue(judgements.fault(judged, ["1:5+1 BadToken: a"]))
+        self.assertTrue(judgements.fault(judged[:1], ["1:5+1 BadToken: a", "0:1+1 warning: Any: c"]))
+
+    def test_the_first_refusal_is_that_of_asm(self) -> None:
+        self.assertEqual(judgements.refusal(judgements.judgements("2 warning\n3:1+1 Empty")), "REFUSED 3 Empty\n")
+        self.assertIsNone(judgements.refusal(judgements.judgements("2 warning")))
+        with self.assertRaises(ValueError):
+            judgements.judgements("has a")
 
 
 class Peers(unittest.TestCase):
@@ -115,8 +134,7 @@ class Services(unittest.TestCase):
     def setUp(self) -> None:
         folder = tempfile.TemporaryDirectory()
         self.addCleanup(folder.cleanup)
-        self.echo = write(f"{folder.name}/echo", ECHO)
-        os.chmod(self.echo, 0o755)
+        self.echo = write(f"{folder.name}/echo", ECHO, 0o755)
 
     def test_ports_answers_and_log(self) -> None:
         service = Service(self.echo, "hill", "--http", "0")

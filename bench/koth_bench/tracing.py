@@ -1,8 +1,11 @@
-"""Stops a process at calls of the system, by ptrace. Numbers of calls are those of x86-64."""
+"""Stops a process at calls of the system by ptrace, and shows them by strace. Their numbers are those of x86-64."""
 
 import ctypes
 import os
+import shutil
 import typing
+
+from .processes import run
 
 LIBC = ctypes.CDLL(None, use_errno=True)
 LIBC.ptrace.argtypes = [ctypes.c_long, ctypes.c_long, ctypes.c_void_p, ctypes.c_void_p]
@@ -40,3 +43,12 @@ def start(folder: str, words: list[str]) -> int:
     os.waitpid(child, 0)
     ptrace(SET_OPTIONS, child, 0, MARK_CALLS)
     return child
+
+
+def traced(folder: str, *options: str) -> list[str]:
+    """The words that run others under strace, which writes their calls to the file `calls` of this folder. Raises
+    `PermissionError` where that can't be."""
+    strace = ["strace", "-f", "-y", "-o", f"{folder}/calls", *options]
+    if shutil.which("strace") is None or run(*strace, "true", folder=folder).status:
+        raise PermissionError("no strace, or it may not trace; apt-get install -y strace puts it there")
+    return strace

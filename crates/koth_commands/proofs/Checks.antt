@@ -2,9 +2,9 @@
 use Rattle.std.proofs.Common.{◌≡◌, ◌∙◌, ◌<◌, ◌+◌, ◌++◌, ℕ, Bool, true, false, true≢false, ◌||◌, List, [], ◌∷◌, Option, None, Some, Result, Ok, Err, MatchResult, inl, inr, ap, append-nil, get_or, length, map, refl, subst, sym, take, drop, ap₂}
 use Rattle.std.proofs.{lemmas.List.{take_more, drop_more, get_or-map, map-append, length-map}, lemmas.List.Concat.flat_map-append, lemmas.List.Folds.list_any-append, KnownBytes.{Appends-nil, Appends-trans}}
 use Rattle.{std.specs.{Io.KnownBytes.Appends, List.flat_map, Prelude.is_ok}, war_types.specs.declared.settings.RawSettings.RawSettings, koth_words.specs.Sources.Place}
-use Rattle.koth_commands.specs.{Answer.{AnswerParts, Delivers}, Check.{AreParts, Breaks, Checks, EndsCheckUnder, IsChecked, IsFaultAt, IsPart, Part, is_over, is_unread, status_over}, Report.{Manner, is_refused, status_by}, Status.worse, Streams.Streams}
+use Rattle.koth_commands.specs.{Answer.{AnswerParts, Delivers}, Check.{AreParts, Breaks, Checks, EndsCheckUnder, IsChecked, IsFaultAt, IsPart, Part, Reading, is_over, is_refused_as, is_unread, status_over}, Define.{fault_by, fault_of}, Report.{Manner, is_refused, status_by}, Status.worse, Streams.Streams}
 use Rattle.koth_commands.specs.{Told.{TellsWord, apart_text}, Trouble.{fault_status, fault_word}, declared.{status.Status.Status, trouble.Trouble.Trouble}}
-use Rattle.koth_commands.proofs.Told.{nothing_more}
+use Rattle.{koth_commands.proofs.Told.{nothing_more}, redcode_define.specs.Definition.definition_of}
 
 -- ---- one source more
 
@@ -30,6 +30,15 @@ goes_on : (b : Bool) → is_over true (status_by false b) ≡ false
 goes_on true = refl
 goes_on false = refl
 
+-- a source is refused for which nothing is assembled
+fault_of_refuses : (definition : Option (List ℕ × List ℕ)) → fault_status (fault_of definition) ≡ Status.Refused
+fault_of_refuses None = refl
+fault_of_refuses (Some definition) = refl
+
+fault_refuses : (define : Option (List ℕ)) → fault_status (fault_by define) ≡ Status.Refused
+fault_refuses None = refl
+fault_refuses (Some words) = fault_of_refuses (definition_of words)
+
 pub none_checked : (s : RawSettings) (how : Manner) (start : Streams) → Checks s how [] Status.Done start start
 none_checked s how start =
     record { parts = []; placed = refl; each = refl; ends = refl; written = Appends-nil start.output; told = Appends-nil start.errors }
@@ -46,30 +55,48 @@ module _ (s : RawSettings) (how : Manner) (at : Place) (end : Status) (between a
     part : Part
     placed : part.at ≡ at
     is : IsPart s how part between.input after.input
-    ends : end ≡ status_by (is_unread part.source) (is_refused s how part.source)
+    ends : end ≡ status_by (is_unread part.source) (is_refused_as s how part.source)
     written : Appends between.output after.output part.text
     told : Appends between.errors after.errors part.told
 
   -- what was done to it
   abbrev IsDoneTo : Result AnswerParts Trouble → Type 0
-  IsDoneTo done = MatchResult done (IsChecked s how at between.input after.input) (IsFaultAt at between.input after.input)
+  IsDoneTo done = MatchResult done (IsChecked s how at between.input after.input) (IsFaultAt how at between.input after.input)
 
   abbrev IsSent : Result AnswerParts Trouble → Type 0
   IsSent done = Delivers done end between.output after.output between.errors after.errors
 
   adds : (done : Result AnswerParts Trouble) → IsDoneTo done → IsSent done → is_over (is_ok done) end ≡ false → Adds
   adds (Ok answer) checked (inl (ends, written, noted)) going = record {
-    part = record { at = at; source = Some checked.source; text = answer.text; told = noted.part };
+    part = record { at = at; source = Reading.Text checked.text; text = answer.text; told = noted.part };
     placed = refl;
-    is = (checked.taken, checked.answers.report, (answer.note, checked.answers.note, (noted.rest, noted.split)));
+    is = (checked.source, checked.taken, checked.defined, checked.answers.report, (answer.note, checked.answers.note, (noted.rest, noted.split)));
     ends = ends ∙ checked.answers.status;
     written = written;
     told = noted.written;
   }
   adds (Ok answer) checked (inr (ends, part, told)) going = absurd (true≢false (sym (ap (is_over true) ends) ∙ going))
-  adds (Err trouble) (fault, taken) (kept, tells) going = elim fault [
+  adds (Err trouble) (inr (source, taken, (none, is))) (kept, tells) going = record {
+    part = record { at = at; source = Reading.Undefined; text = []; told = tells.word.written.part };
+    placed = refl;
+    is = (
+      source,
+      taken,
+      none,
+      refl,
+      (
+        tells.word.apart,
+        tells.word.text,
+        (tells.word.written.rest, ap (λ f. fault_word f ++ (apart_text tells.word.apart ++ tells.word.text)) (sym is) ∙ tells.word.written.split),
+      ),
+    );
+    ends = tells.ends ∙ ap fault_status is ∙ fault_refuses how.define;
+    written = nothing_more between.output after.output kept;
+    told = tells.word.written.written;
+  }
+  adds (Err trouble) (inl (fault, taken)) (kept, tells) going = elim fault [
     | inl stream ↦ record {
-      part = record { at = at; source = None; text = []; told = tells.word.written.part };
+      part = record { at = at; source = Reading.Unread; text = []; told = tells.word.written.part };
       placed = refl;
       is = (
         taken,
@@ -93,7 +120,7 @@ module _ (s : RawSettings) (how : Manner) (at : Place) (end : Status) (between a
       let new = adds done checked delivered going in
       let parts = so_far.parts ++ new.part ∷ [] in
       let unread = list_any-append (λ (part : Part). is_unread part.source) so_far.parts (new.part ∷ []) in
-      let refused = list_any-append (λ (part : Part). is_refused s how part.source) so_far.parts (new.part ∷ []) in
+      let refused = list_any-append (λ (part : Part). is_refused_as s how part.source) so_far.parts (new.part ∷ []) in
       record {
         parts = parts;
         placed = map-append (λ (part : Part). part.at) so_far.parts (new.part ∷ []) ∙ ap (λ l. l ++ new.part.at ∷ []) so_far.placed
@@ -118,9 +145,11 @@ module _ (s : RawSettings) (how : Manner) (at : Place) (end : Status) (between a
   breaks : (rest : List Place) (done : Result AnswerParts Trouble) → IsDoneTo done → IsSent done → is_over (is_ok done) end ≡ true
       → Breaks s how (at ∷ rest) end between after
   breaks rest (Ok answer) checked (inl (ends, written, noted)) over =
-      absurd (true≢false (sym over ∙ ap (is_over true) (ends ∙ checked.answers.status) ∙ goes_on (is_refused s how (Some checked.source))))
-  breaks rest (Ok answer) checked (inr (ends, part, told)) over = inl (ends, (checked.source, answer.text, checked.taken, checked.answers.report, part), told)
-  breaks rest (Err trouble) (fault, taken) (kept, tells) over = elim fault [
+      absurd (true≢false (sym over ∙ ap (is_over true) (ends ∙ checked.answers.status) ∙ goes_on (is_refused s how (Some checked.text))))
+  breaks rest (Ok answer) checked (inr (ends, part, told)) over = inl (ends, (checked.source, checked.text, answer.text, checked.taken, checked.defined, checked.answers.report, part), told)
+  breaks rest (Err trouble) (inr (source, taken, (none, is))) (kept, tells) over =
+      absurd (true≢false (sym over ∙ ap (is_over false) (tells.ends ∙ ap fault_status is ∙ fault_refuses how.define)))
+  breaks rest (Err trouble) (inl (fault, taken)) (kept, tells) over = elim fault [
     | inl stream ↦ absurd (true≢false (sym over ∙ ap (is_over false) (tells.ends ∙ ap fault_status stream)))
     | inr memory ↦ inr (
       tells.ends ∙ ap (λ (t : Trouble). fault_status t.fault) memory,

@@ -96,3 +96,5 @@ about_word word About.Nothing a b told = alone_word word a b told
 about_word word (About.Cause cause) a b told = cause_word word (Some cause) a b told
 about_word word (About.Given given) a b told = told
 about_word word (About.Round rounds round) a b told = told
+about_word word (About.Definition words) a b told = told
+about_word word (About.Kind name) a b told = told

@@ -3,20 +3,27 @@ use Rattle.std.specs.{Prelude.{◌≡◌, ◌⊎◌, ℕ, Bool, true, false, Opt
 use Rattle.{war_types.specs.{declared.settings.RawSettings.RawSettings, declared.settings.SettingsFault.SettingsFault}, redcode_diagnosis.specs.Text.Begins, koth_text.specs.Written.WritesPart}
 use Rattle.koth_words.specs.{Sources.{Place, place}, declared.requests.Checked.{Checked}}
 use Rattle.koth_commands.specs.{Answer.{AnswerParts, EndsGiven}, Report.{Manner, IsAnswered, IsNoteOf, IsReport, is_refused, status_by}}
-use Rattle.koth_commands.specs.{Streams.{From, Streams, Takes, TakesSome, at_input, name_at}, Told.{TellsWord, apart_text}, Trouble.{IsReadFault, fault_word}}
+use Rattle.koth_commands.specs.{Define.{HasNoText, fault_by, text_by}, Streams.{From, Streams, Takes, TakesSome, at_input, name_at}, Told.{TellsWord, apart_text}, Trouble.{IsReadFault, fault_word}}
 use Rattle.koth_commands.specs.declared.{status.Status.Status, telling.Apart.Apart, trouble.{Fault.Fault, Trouble.Trouble}}
 
 -- ---- one source
 
--- a source was taken from the input or else from a file, and this is the answer to it
+-- a source was taken from the input or else from a file
+abbrev pub IsTaken : Place → List ℕ → Option (List ℕ) → Option (List ℕ) → Type 0
+IsTaken at source before after = From (at_input at) (λ old new. Takes old new source) before after
+
+-- a source was taken, and this is the answer to the text that is assembled for it
 pub record IsChecked (s : RawSettings) (how : Manner) (at : Place) (before after : Option (List ℕ)) (answer : AnswerParts) : Type 0 where
   pub source : List ℕ
-  pub taken : From (at_input at) (λ old new. Takes old new source) before after
-  pub answers : IsAnswered s how (name_at at) source answer
+  pub taken : IsTaken at source before after
+  pub text : List ℕ
+  pub defined : text_by how.define source ≡ Some text
+  pub answers : IsAnswered s how (name_at at) text answer
 
--- or it could not be read, or memory ran out, and a part of it may be taken
-abbrev pub IsFaultAt : Place → Option (List ℕ) → Option (List ℕ) → Trouble → Type 0
-IsFaultAt at before after trouble = IsReadFault trouble × From (at_input at) TakesSome before after
+-- or it could not be read, or memory ran out, and a part of it may be taken; or nothing is assembled for it
+abbrev pub IsFaultAt : Manner → Place → Option (List ℕ) → Option (List ℕ) → Trouble → Type 0
+IsFaultAt how at before after trouble = (IsReadFault trouble × From (at_input at) TakesSome before after)
+    ⊎ ((source : List ℕ) × IsTaken at source before after × HasNoText how.define source trouble)
 
 -- whether no further source is checked: after a lack of memory, and if the output failed at the report of a source that
 -- was read
@@ -27,26 +34,43 @@ is_over is_read _ = false
 
 -- ---- sources, one after the other
 
--- whether a source could not be read
-abbrev pub is_unread : Option (List ℕ) → Bool
-is_unread None = true
-is_unread (Some source) = false
+-- What became of a source: it could not be read, nothing is assembled for it, or this text is.
+pub data Reading : Type 0 where
+  Unread : Reading
+  Undefined : Reading
+  Text : List ℕ → Reading
 
--- one of them: its place, its text if that could be read, and what was written of it on the output and on standard
--- error
+abbrev pub is_unread : Reading → Bool
+is_unread Reading.Unread = true
+is_unread Reading.Undefined = false
+is_unread (Reading.Text text) = false
+
+-- whether it is refused: also if nothing is assembled for it
+abbrev pub is_refused_as : RawSettings → Manner → Reading → Bool
+is_refused_as s how Reading.Unread = false
+is_refused_as s how Reading.Undefined = true
+is_refused_as s how (Reading.Text text) = is_refused s how (Some text)
+
+-- one of them: its place, what became of it, and what was written of it on the output and on standard error
 pub record Part : Type 0 where
   pub at : Place
-  pub source : Option (List ℕ)
+  pub source : Reading
   pub text : List ℕ
   pub told : List ℕ
 
--- it was taken: its report, and the note or as much of that as standard error took. Or it could not be read: the word
--- of a failed stream, and what follows that
-abbrev pub IsPartBy : RawSettings → Manner → Place → Option (List ℕ) → List ℕ → List ℕ → Option (List ℕ) → Option (List ℕ) → Type 0
-IsPartBy s how at (Some source) text told before after = From (at_input at) (λ old new. Takes old new source) before after
-    × IsReport s how (name_at at) source text × ((note : List ℕ) × IsNoteOf (name_at at) source note × Begins told note)
-IsPartBy s how at None text told before after = From (at_input at) TakesSome before after × (text ≡ [])
-    × ((apart : Apart) × (more : List ℕ) × Begins told (fault_word Fault.Stream ++ (apart_text apart ++ more)))
+-- the word of a fault was told, with what follows it, or as much of that as standard error took
+abbrev pub BeginsWord : Fault → List ℕ → Type 0
+BeginsWord fault told = (apart : Apart) × (more : List ℕ) × Begins told (fault_word fault ++ (apart_text apart ++ more))
+
+-- it was taken: the report of the text that is assembled for it, and the note or as much of that as standard error took.
+-- Or nothing is assembled for it, or it could not be read: the word of that
+abbrev pub IsPartBy : RawSettings → Manner → Place → Reading → List ℕ → List ℕ → Option (List ℕ) → Option (List ℕ) → Type 0
+IsPartBy s how at (Reading.Text assembled) text told before after =
+    (source : List ℕ) × IsTaken at source before after × (text_by how.define source ≡ Some assembled)
+    × IsReport s how (name_at at) assembled text × ((note : List ℕ) × IsNoteOf (name_at at) assembled note × Begins told note)
+IsPartBy s how at Reading.Undefined text told before after =
+    (source : List ℕ) × IsTaken at source before after × (text_by how.define source ≡ None) × (text ≡ []) × BeginsWord (fault_by how.define) told
+IsPartBy s how at Reading.Unread text told before after = From (at_input at) TakesSome before after × (text ≡ []) × BeginsWord Fault.Stream told
 
 abbrev pub IsPart : RawSettings → Manner → Part → Option (List ℕ) → Option (List ℕ) → Type 0
 IsPart s how part before after = IsPartBy s how part.at part.source part.text part.told before after
@@ -58,7 +82,7 @@ AreParts s how (part ∷ parts) before after = (between : Option (List ℕ)) × 
 
 -- 3 if one can't be read, else 1 if one is refused, and else 0
 abbrev pub status_over : RawSettings → Manner → List Part → Status
-status_over s how parts = status_by (list_any (λ part. is_unread part.source) parts) (list_any (λ part. is_refused s how part.source) parts)
+status_over s how parts = status_by (list_any (λ part. is_unread part.source) parts) (list_any (λ part. is_refused_as s how part.source) parts)
 
 -- the sources at these places were checked
 pub record Checks (s : RawSettings) (how : Manner) (places : List Place) (status : Status) (before after : Streams) : Type 0 where
@@ -72,9 +96,9 @@ pub record Checks (s : RawSettings) (how : Manner) (places : List Place) (status
 -- a part of the report of the next of these sources was written
 abbrev pub ReportsPart : RawSettings → Manner → List Place → Streams → Streams → Type 0
 ReportsPart s how [] before after = ⊥
-ReportsPart s how (at ∷ rest) before after = (source : List ℕ) × (text : List ℕ)
-    × From (at_input at) (λ old new. Takes old new source) before.input after.input × IsReport s how (name_at at) source text
-    × WritesPart before.output after.output text
+ReportsPart s how (at ∷ rest) before after = (source : List ℕ) × (assembled : List ℕ) × (text : List ℕ)
+    × IsTaken at source before.input after.input × (text_by how.define source ≡ Some assembled)
+    × IsReport s how (name_at at) assembled text × WritesPart before.output after.output text
 
 -- whether the next of these sources is the input
 abbrev pub input_next : List Place → Bool

@@ -6,9 +6,12 @@ pub mod Cause
 pub mod Told
 pub mod Trouble
 pub mod Answer
+-- A source with another body for the `EQU` lines of a name.
+pub mod Define
 -- What sources assemble to.
 pub mod Pair
--- What each command writes and how it ends: `asm` and `check`.
+-- What each command writes and how it ends: `explain`, `asm` and `check`.
+pub mod Kinds
 pub mod Asm
 pub mod Report
 pub mod Check

@@ -1,19 +1,26 @@
 -- The report of a source: its faults, and its warnings if they are asked for.
-use Rattle.std.specs.Prelude.{◌≡◌, ◌⊎◌, ℕ, Bool, true, false, ◌||◌, ◌&&◌, if◌then◌else◌, Option, None, Some, List, [], ◌∷◌, ◌++◌, codes, decimal, is_err, map}
+use Rattle.std.specs.Prelude.{◌≡◌, ◌⊎◌, ℕ, Bool, true, false, ◌||◌, ◌&&◌, if◌then◌else◌, Option, None, Some, List, [], ◌∷◌, ◌++◌, codes, decimal, is_err, map, option_map}
 use Rattle.{war_types.specs.{declared.fault.AsmFault.AsmFault, declared.settings.RawSettings.RawSettings, Fault.kind_name}, redcode_asm.specs.{Assembly.assembly, Within.MaySpend}}
 use Rattle.{redcode_lines.specs.Place.{IsPlaceIn, line_text}, redcode_diagnosis.specs.{Told.TellsAll, Text.{Begins, said_heading}}}
 use Rattle.redcode_warnings.specs.{Kind.{kind_name as warning_name}, Warnings.{Noted, warnings_of}}
 use Rattle.{koth_json.specs.{Finding.finding_line, declared.finding.{Finding.Finding, Severity.Severity}}, koth_words.specs.declared.{serving.TheConstants.STEPS, requests.{Checked.Checked, Form.Form}}}
 use Rattle.koth_commands.specs.{Answer.AnswerParts, Name.shown_name, declared.status.Status.Status}
 
--- how sources are reported: for people or for programs, with warnings or without, and whether a warning is refused
+-- how sources are reported: for people or for programs, with warnings or without, whether a warning is refused, and with
+-- the body of a definition in place of those of its name, if one is given
 pub record Manner : Type 0 where
   pub form : Form
   pub warnings : Bool
   pub deny : Bool
+  pub define : Option (List ℕ)
 
 abbrev pub manner_of : Checked → Manner
-manner_of checked = record { form = checked.form; warnings = checked.warnings; deny = checked.deny }
+manner_of checked = record {
+  form = checked.form;
+  warnings = checked.warnings;
+  deny = checked.deny;
+  define = option_map (λ words. words.now) checked.define;
+}
 
 -- ---- its lines
 

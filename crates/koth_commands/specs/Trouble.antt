@@ -25,6 +25,10 @@ fault_word Fault.Occupied = codes "Occupied"
 fault_word Fault.NotAHill = codes "NotAHill"
 fault_word Fault.OldHill = codes "NotAHill"
 fault_word Fault.Damaged = codes "Damaged"
+fault_word Fault.NoEntry = codes "NoEntry"
+fault_word Fault.BadDefine = codes "BadDefine"
+fault_word Fault.NoEqu = codes "NoEqu"
+fault_word Fault.NoKind = codes "NoKind"
 fault_word Fault.Stream = codes "DISK"
 fault_word Fault.Memory = codes "MEMORY"
 
@@ -36,6 +40,10 @@ fault_status Fault.Occupied = Status.Refused
 fault_status Fault.NotAHill = Status.Refused
 fault_status Fault.OldHill = Status.Refused
 fault_status Fault.Damaged = Status.Refused
+fault_status Fault.NoEntry = Status.Refused
+fault_status Fault.BadDefine = Status.Refused
+fault_status Fault.NoEqu = Status.Refused
+fault_status Fault.NoKind = Status.Refused
 fault_status Fault.Stream = Status.StreamFault
 fault_status Fault.Memory = Status.NoMemory
 
@@ -45,14 +53,18 @@ about_told About.Nothing = None
 about_told (About.Cause cause) = Some (cause_told cause)
 about_told (About.Given given) = None
 about_told (About.Round rounds round) = None
+about_told (About.Definition words) = None
+about_told (About.Kind name) = None
 
--- the word was written with what it is about: alone, with what failed and why if memory sufficed for that, or with the
--- range of a setting
+-- the word was written with what it is about: alone, with what failed and why if memory sufficed for that, or with some
+-- text, as the range of a setting
 abbrev pub TellsAbout : List ℕ → About → Option (List ℕ) → Option (List ℕ) → Type 0
 TellsAbout word About.Nothing old new = TellsAlone word old new
 TellsAbout word (About.Cause cause) old new = TellsCause word (Some cause) old new
 TellsAbout word (About.Given given) old new = TellsWord word old new
 TellsAbout word (About.Round rounds round) old new = TellsWord word old new
+TellsAbout word (About.Definition words) old new = TellsWord word old new
+TellsAbout word (About.Kind name) old new = TellsWord word old new
 
 -- the trouble was told on standard error and is how the program ends, by what that held before and after
 pub record Tells (trouble : Trouble) (status : Status) (old new : Option (List ℕ)) : Type 0 where

@@ -31,6 +31,8 @@ pub enum Reason {
     NoText,
     /// The folder has no source of a warrior.
     NoSources,
+    /// The hill has no warrior with this entry.
+    NoEntry,
     /// The disk is full.
     Full,
     /// The file would be too large, or is too short.
@@ -111,6 +113,7 @@ impl Reason {
             Reason::LongName => "the name is too long",
             Reason::NoText => "its name is not UTF-8",
             Reason::NoSources => "no file in it ends with .red",
+            Reason::NoEntry => "no warrior on the hill has this entry; koth show FILE has them",
             Reason::Full => "the disk is full",
             Reason::Size => "the file would be too large",
             Reason::NoFile => "it is no plain file",

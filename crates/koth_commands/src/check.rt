@@ -5,6 +5,7 @@ ghost use Rattle.{war_types.specs.Settings.settings_of, koth_words.specs.Sources
 ghost use Rattle.koth_commands.specs.{Check.{is_over, places_of, EndsCheck, EndsCheckUnder, IsChecked, IsFaultAt}, Report.manner_of, Streams.streams};
 
 use crate::answer::{Answer, deliver};
+use crate::define::defined_text;
 use crate::report::report;
 use crate::settings::refuse_settings;
 use crate::source::{open_source, text_from};
@@ -18,9 +19,9 @@ use war_types::{RawSettings, Settings};
 
 /// Writes every refusal of sources, under the settings that are given, and every warning if they are asked for. Each is
 /// written for people, with the line's text and a caret under what is meant, or as a line of JSON. Standard error names
-/// the sources whose assembly takes more steps than a service allows by default, and those that can't be read. Settings
-/// that are out of their ranges are refused before anything is read. If the output fails or memory runs out, no further
-/// source is checked.
+/// the sources whose assembly takes more steps than a service allows by default, those that can't be read, and those of
+/// which no line defines the name of a definition that is given. Settings that are out of their ranges are refused
+/// before anything is read. If the output fails or memory runs out, no further source is checked.
 pub fn check<R: Files, A: Allocator + Copy, I: Read, O: Write, E: Write>(
     rt: &R,
     alloc: A,
@@ -82,14 +83,14 @@ fn check_source<'w, R: Files, A: Allocator + Copy, I: Read>(
     rt: &R,
     alloc: A,
     settings: &Settings,
-    checked: &Checked<'_>,
+    checked: &Checked<'w>,
     source: Source<'w>,
     input: &mut I,
 ) -> Result<Answer<A>, Trouble<'w>>
     ensures { MatchResult result
         (IsChecked settings.now (manner_of checked.now) (place source.entry) (I.remaining input.old)
         (I.remaining input.new))
-        (IsFaultAt (place source.entry) (I.remaining input.old) (I.remaining input.new)) }
+        (IsFaultAt (manner_of checked.now) (place source.entry) (I.remaining input.old) (I.remaining input.new)) }
 {
     match source {
         Source::Input(name) => check_from(alloc, settings, checked, name, input),
@@ -104,16 +105,21 @@ fn check_source<'w, R: Files, A: Allocator + Copy, I: Read>(
 fn check_from<'w, A: Allocator + Copy, I: Read>(
     alloc: A,
     settings: &Settings,
-    checked: &Checked<'_>,
+    checked: &Checked<'w>,
     name: &'w str,
     reader: &mut I,
 ) -> Result<Answer<A>, Trouble<'w>>
     ensures { MatchResult result
         (IsChecked settings.now (manner_of checked.now) (Place.Input name.now) (I.remaining reader.old)
         (I.remaining reader.new))
-        (IsFaultAt (Place.Input name.now) (I.remaining reader.old) (I.remaining reader.new)) }
+        (IsFaultAt (manner_of checked.now) (Place.Input name.now) (I.remaining reader.old)
+        (I.remaining reader.new)) }
 {
-    let text = match text_from(alloc, name, reader) {
+    let source = match text_from(alloc, name, reader) {
+        Ok(source) => source,
+        Err(trouble) => return Err(trouble),
+    };
+    let text = match defined_text(alloc, checked.define, source) {
         Ok(text) => text,
         Err(trouble) => return Err(trouble),
     };

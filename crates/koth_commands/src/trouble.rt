@@ -4,6 +4,7 @@ ghost use Rattle.std.specs.Prelude.{◌≡◌};
 ghost use Rattle.koth_commands.specs.Trouble.{fault_status, fault_word, no_memory};
 
 use crate::cause::{Cause, Reason};
+use crate::named::{definition_text, kind_text, tell_line};
 use crate::settings::{range_text, round_range, settings_word, tell_range};
 use crate::status::Status;
 use crate::telling::{Apart, tell_text, tell_word};
@@ -26,6 +27,14 @@ pub enum Fault {
     OldHill,
     /// A warrior on the hill can't be read.
     Damaged,
+    /// A hill has no warrior with an entry.
+    NoEntry,
+    /// The text of a definition is none.
+    BadDefine,
+    /// No line of a source defines the name of a definition.
+    NoEqu,
+    /// No kind of refusal or warning has a name.
+    NoKind,
     /// A file, a device, a socket or a stream failed.
     Stream,
     /// Out of memory.
@@ -43,6 +52,10 @@ impl Fault {
             Fault::Occupied => "Occupied",
             Fault::NotAHill | Fault::OldHill => "NotAHill",
             Fault::Damaged => "Damaged",
+            Fault::NoEntry => "NoEntry",
+            Fault::BadDefine => "BadDefine",
+            Fault::NoEqu => "NoEqu",
+            Fault::NoKind => "NoKind",
             Fault::Stream => "DISK",
             Fault::Memory => "MEMORY",
         }
@@ -70,6 +83,10 @@ pub enum About<'t> {
     Given(RawSettings),
     /// A round that a match of `rounds` rounds doesn't have. Rounds are counted from 1.
     Round { rounds: u32, round: u32 },
+    /// A definition, as it is given.
+    Definition(&'t str),
+    /// The name of a kind.
+    Kind(&'t str),
 }
 
 /// Why a command was not carried out, and what it was about.
@@ -130,6 +147,26 @@ impl<'t> Trouble<'t> {
         }
     }
 
+    /// A definition that is none, or whose name no line defines.
+    pub fn definition(fault: Fault, words: &'t str) -> Trouble<'t>
+        ensures { result.fault ≡ fault }
+    {
+        Trouble {
+            fault,
+            about: About::Definition(words),
+        }
+    }
+
+    /// No kind has this name.
+    pub fn kind(name: &'t str) -> Trouble<'t>
+        ensures { result.fault ≡ Fault.NoKind }
+    {
+        Trouble {
+            fault: Fault::NoKind,
+            about: About::Kind(name),
+        }
+    }
+
     /// Memory ran out.
     pub fn memory() -> Trouble<'t>
         ensures { result ≡ no_memory }
@@ -160,6 +197,10 @@ impl<'t> Trouble<'t> {
             About::Round { rounds, round } => {
                 tell_range(word, round_range(alloc, rounds, round), errors)
             }
+            About::Definition(words) => {
+                tell_line(word, definition_text(alloc, self.fault, words), errors)
+            }
+            About::Kind(name) => tell_line(word, kind_text(alloc, name), errors),
         }
     }
 }

@@ -9,26 +9,28 @@ use Rattle.koth_contests.specs.Pair.{AnswersAs, EndsMatch, IsAnswer}
 use Rattle.koth_contests.proofs.Written.{nothing_written, stays}
 
 -- the answer of a source that is refused
-refused_as : (s : RawSettings) (view : View) (fault : AsmFault) (a : AnswerParts) → IsFaultOf s fault → IsRefusal view fault a → IsAnswer s view (λ t. ⊥) ⊥ a
-refused_as s view fault a comes is =
-    subst (λ t. AnswersAs s view (λ x. ⊥) ⊥ t a.text a.note) {x = Status.Refused} (sym is.refused) (inl (fault, comes, is.text))
+refused_as : (IsOther : Type 0) (s : RawSettings) (view : View) (fault : AsmFault) (a : AnswerParts) → IsFaultOf s fault → IsRefusal view fault a → IsAnswer s view (λ t. ⊥) IsOther a
+refused_as IsOther s view fault a comes is =
+    subst (λ t. AnswersAs s view (λ x. ⊥) IsOther t a.text a.note) {x = Status.Refused} (sym is.refused) (inl (fault, comes, is.text))
 
-pub refused_answers : (s : RawSettings) (view : View) (source : List ℕ) (fault : AsmFault) (r : Result AnswerParts Trouble) → assembly s source ≡ Err fault
-    → MatchResult r (IsRefusal view fault) (λ trouble. trouble ≡ no_memory) → MatchResult r (IsAnswer s view (λ t. ⊥) ⊥) IsReadFault
-refused_answers s view source fault (Ok a) comes is = refused_as s view fault a (record { source = source; comes = comes }) is
-refused_answers s view source fault (Err trouble) comes is = inr is
+pub refused_answers : (IsOther : Type 0) (s : RawSettings) (view : View) (source : List ℕ) (fault : AsmFault) (r : Result AnswerParts Trouble) → assembly s source ≡ Err fault
+    → MatchResult r (IsRefusal view fault) (λ trouble. trouble ≡ no_memory) → MatchResult r (IsAnswer s view (λ t. ⊥) IsOther) IsReadFault
+refused_answers IsOther s view source fault (Ok a) comes is = refused_as IsOther s view fault a (record { source = source; comes = comes }) is
+refused_answers IsOther s view source fault (Err trouble) comes is = inr is
 
 module _ (s : RawSettings) (view : View) (IsTold : List ℕ → Type 0) (IsNothing : Type 0) where
   -- if there is no match, the answer is the same whatever would be told of one
-  none_as : (status : Status) (text note : List ℕ) → AnswersAs s view (λ t. ⊥) ⊥ status text note → AnswersAs s view IsTold IsNothing status text note
-  none_as Status.Done text note answers = absurd answers.0
-  none_as Status.Refused text note (inl refused) = inl refused
-  none_as Status.Refused text note (inr nothing) = absurd nothing.0
-  none_as status text note answers = absurd answers
+  none_as : (IsOther : Type 0) → (IsOther → IsNothing) → (status : Status) (text note : List ℕ) → AnswersAs s view (λ t. ⊥) IsOther status text note
+      → AnswersAs s view IsTold IsNothing status text note
+  none_as IsOther so Status.Done text note answers = absurd answers.0
+  none_as IsOther so Status.Refused text note (inl refused) = inl refused
+  none_as IsOther so Status.Refused text note (inr nothing) = inr (so nothing.0, nothing.1)
+  none_as IsOther so status text note answers = absurd answers
 
-  pub answers_none : (r : Result AnswerParts Trouble) → MatchResult r (IsAnswer s view (λ t. ⊥) ⊥) IsReadFault → MatchResult r (IsAnswer s view IsTold IsNothing) IsReadFault
-  answers_none (Ok a) is = none_as a.status a.text a.note is
-  answers_none (Err trouble) is = is
+  pub answers_none : (IsOther : Type 0) → (IsOther → IsNothing) → (r : Result AnswerParts Trouble) → MatchResult r (IsAnswer s view (λ t. ⊥) IsOther) IsReadFault
+      → MatchResult r (IsAnswer s view IsTold IsNothing) IsReadFault
+  answers_none IsOther so (Ok a) is = none_as IsOther so a.status a.text a.note is
+  answers_none IsOther so (Err trouble) is = is
 
   -- the answer if there is nothing to write but a note
   pub nothing_answers : (r : Result AnswerParts Trouble) → MatchResult r (λ a. (a.status ≡ Status.Refused) × (a.text ≡ [])) (λ trouble. trouble ≡ no_memory)

@@ -4,4 +4,4 @@ mod Fought
 mod Found
 pub mod Meetings
 pub mod Written
-mod Taken
+pub mod Taken

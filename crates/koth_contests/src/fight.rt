@@ -2,7 +2,7 @@
 
 ghost use Rattle.std.specs.Prelude.{◌≡◌, [], true, None, IfOk, MatchOption, MatchResult};
 ghost use Rattle.{war_types.specs.Settings.settings_of, koth_commands.specs.{Pair.IsWarriorOf, Streams.{source_name, streams}, Trouble.{no_memory, IsReadFault}}};
-ghost use Rattle.koth_contests.specs.{Lines.entrant, Fight.{bout_line, bout_text, EndsFight, EndsFightUnder, EndsMany, IsAlone, IsFoughtOf, IsToldOf, MayBeMany}, Pair.{ArePairOf, IsAnswer}};
+ghost use Rattle.koth_contests.specs.{Lines.entrant, Fight.{bout_line, bout_text, definition_of, EndsFight, EndsFightUnder, EndsMany, IsAlone, IsFoughtOf, IsToldOf, MayBeMany, MayBeNoMatch}, Pair.{ArePairOf, IsAnswer}};
 
 use crate::lines::{contender, contest_line};
 use crate::meeting::{Terms, meet_all};
@@ -30,7 +30,7 @@ const NO_ROUNDS: &[u8] =
 /// Plays the matches of a warrior against its opponents, under the settings that are given, and writes their counts.
 /// Settings that are out of their ranges are refused before anything is read. Of two sources it writes the counts of
 /// their match, or with `each` its rounds; of more it writes a line for each opponent as soon as that was fought. The
-/// older warrior is read and assembled before another source is opened.
+/// older warrior is read and assembled, with a definition if one is given, before another source is opened.
 pub fn fight<R: Files, A: Allocator + Copy, I: Read, O: Write, E: Write>(
     rt: &R,
     alloc: A,
@@ -98,14 +98,14 @@ fn fight_two<'f, R: Files, A: Allocator + Copy, I: Read>(
     input: &mut I,
 ) -> Result<Answer<A>, Trouble<'f>>
     ensures { MatchResult result (IsAnswer settings.now view
-        (IsFoughtOf settings.now fighters.now.older younger.entry fighters.now.each view
-        (I.remaining input.old) (I.remaining input.new)) (fighters.now.each ≡ true)) IsReadFault }
+        (IsFoughtOf (definition_of fighters.now) settings.now fighters.now.older younger.entry fighters.now.each view
+        (I.remaining input.old) (I.remaining input.new)) (MayBeNoMatch fighters.now)) IsReadFault }
 {
     if is_folder_of_rounds(rt, fighters.each, younger) {
         return no_rounds(alloc);
     }
     let older = fighters.older;
-    match pair_from(rt, alloc, settings, older, younger, input) {
+    match pair_from(rt, alloc, settings, fighters.define, older, younger, input) {
         Ok(pair) => match text_of(alloc, settings, older, younger, &pair, fighters.each, view) {
             Ok(text) => Ok(Answer::done(alloc, text)),
             Err(AllocError) => Err(Trouble::memory()),
@@ -217,7 +217,7 @@ fn fight_many<R: Files, A: Allocator + Copy, I: Read, O: Write, E: Write>(
     output: &mut O,
     errors: &mut E,
 ) -> Status
-    ensures { EndsMany settings.now fighters.now.older fighters.now.opponents.items
+    ensures { EndsMany (definition_of fighters.now) settings.now fighters.now.older fighters.now.opponents.items
         (record { both = fighters.now.both; view = view }) result
         (O.contents output.old) (O.contents output.new) (E.contents errors.old) (E.contents errors.new) }
 {
@@ -225,7 +225,7 @@ fn fight_many<R: Files, A: Allocator + Copy, I: Read, O: Write, E: Write>(
         both: fighters.both,
         view,
     };
-    match warrior_from(rt, alloc, settings, fighters.older, input) {
+    match warrior_from(rt, alloc, settings, fighters.define, fighters.older, input) {
         Ok(mine) => meet_found(
             rt, alloc, settings, &mine, fighters, terms, input, output, errors,
         ),
@@ -249,7 +249,8 @@ fn meet_found<R: Files, A: Allocator + Copy, I: Read, O: Write, E: Write>(
     errors: &mut E,
 ) -> Status
     requires { IsWarriorOf settings.now mine.now }
-    ensures { EndsMany settings.now fighters.now.older fighters.now.opponents.items terms result
+    ensures { EndsMany (definition_of fighters.now) settings.now fighters.now.older fighters.now.opponents.items
+        terms result
         (O.contents output.old) (O.contents output.new) (E.contents errors.old) (E.contents errors.new) }
 {
     let Ok(opponents) = opponents_of(rt, alloc, fighters.opponents.as_slice()) else {

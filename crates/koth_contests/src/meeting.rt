@@ -134,10 +134,12 @@ pub fn tell_none<A: Allocator + Copy, E: Write>(
             explain(alloc, name, text.as_slice(), settings, errors);
             Status::Refused
         }
-        NoWarrior::Failed(trouble) => match trouble.tell(alloc, errors) {
-            Status::NoMemory => Status::NoMemory,
-            _ => Status::Refused,
-        },
+        NoWarrior::Failed(trouble) | NoWarrior::Undefined(trouble) => {
+            match trouble.tell(alloc, errors) {
+                Status::NoMemory => Status::NoMemory,
+                _ => Status::Refused,
+            }
+        }
     }
 }
 

@@ -48,12 +48,12 @@ impl<A: Allocator + Copy> Opponent<A> {
     {
         let name = self.name.as_str();
         match self.place {
-            Place::Input => warrior_from(rt, alloc, settings, Source::Input(name), input),
-            Place::File => warrior_from(rt, alloc, settings, Source::File(name), input),
+            Place::Input => warrior_from(rt, alloc, settings, None, Source::Input(name), input),
+            Place::File => warrior_from(rt, alloc, settings, None, Source::File(name), input),
             Place::PlainFile if is_special(rt, name) => {
                 Err(NoWarrior::Failed(Trouble::file(name, Reason::NoFile)))
             }
-            Place::PlainFile => warrior_from(rt, alloc, settings, Source::File(name), input),
+            Place::PlainFile => warrior_from(rt, alloc, settings, None, Source::File(name), input),
             Place::Nowhere(reason) => Err(NoWarrior::Failed(Trouble::file(name, reason))),
         }
     }

@@ -1,11 +1,13 @@
 //! The warriors that sources assemble to, and the answer if there are none.
 
-ghost use Rattle.std.specs.Prelude.{MatchResult};
-ghost use Rattle.koth_commands.specs.{Pair.IsWarriorOf, Streams.{From, is_input}, Trouble.IsReadFault};
-ghost use Rattle.koth_contests.specs.Pair.{ArePairOf, AreTaken, IsAnswer, IsNoneOf, IsTaken};
+ghost use Rattle.std.specs.Prelude.{◌≡◌, ℕ, List, MatchResult, None, Option, option_copied};
+ghost use Rattle.koth_commands.specs.{Define.IsUndefined, Pair.IsWarriorOf, Streams.{From, is_input}, Trouble.IsReadFault};
+ghost use Rattle.koth_contests.specs.Pair.{ArePairOf, AreTaken, IsAnswer, IsNoneOf, IsTaken, IsUndefinedFor, WasUndefined};
 
-use koth_commands::trouble::Trouble;
-use koth_commands::{Answer, RefusedSource, open_source, refusal, text_from};
+use koth_commands::trouble::{Fault, Trouble};
+use koth_commands::{
+    Answer, RefusedSource, Status, defined_text, named_note, open_source, refusal, text_from,
+};
 use koth_words::{Source, View};
 use redcode_asm::assemble;
 use std::alloc::Allocator;
@@ -27,48 +29,52 @@ pub enum NoWarrior<'f, A: Allocator> {
     Refused(&'f str, Vec<u8, A>, AsmFault),
     /// The source can't be read, or memory ran out.
     Failed(Trouble<'f>),
+    /// Nothing is assembled for the source: its definition is none, or no line defines the name.
+    Undefined(Trouble<'f>),
 }
 
-/// The warriors that two sources assemble to. The older one is read and assembled before the younger one's file is
-/// opened.
+/// The warriors that two sources assemble to, the older one's with a definition if one is given. The older one is read
+/// and assembled before the younger one's file is opened.
 pub fn pair_from<'f, R: Files, A: Allocator + Copy, I: Read>(
     rt: &R,
     alloc: A,
     settings: &Settings,
+    definition: Option<&'f str>,
     older: Source<'f>,
     younger: Source<'f>,
     input: &mut I,
 ) -> Result<Pair<A>, NoWarrior<'f, A>>
     ensures comes { MatchResult result (ArePairOf settings.now) (IsNoneOf settings.now) }
-    ensures taken { AreTaken settings.now (is_input older.entry) (is_input younger.entry) result (I.remaining input.old)
-        (I.remaining input.new) }
+    ensures taken { AreTaken (option_copied definition.entry) settings.now (is_input older.entry)
+        (is_input younger.entry) result (I.remaining input.old) (I.remaining input.new) }
 {
-    let older = match warrior_from(rt, alloc, settings, older, input) {
+    let older = match warrior_from(rt, alloc, settings, definition, older, input) {
         Ok(warrior) => warrior,
         Err(none) => return Err(none),
     };
-    match warrior_from(rt, alloc, settings, younger, input) {
+    match warrior_from(rt, alloc, settings, None, younger, input) {
         Ok(younger) => Ok(Pair { older, younger }),
         Err(none) => Err(none),
     }
 }
 
-/// The warrior that a source assembles to.
+/// The warrior that a source assembles to, with a definition if one is given.
 pub(crate) fn warrior_from<'f, R: Files, A: Allocator + Copy, I: Read>(
     rt: &R,
     alloc: A,
     settings: &Settings,
+    definition: Option<&'f str>,
     source: Source<'f>,
     input: &mut I,
 ) -> Result<Warrior<A>, NoWarrior<'f, A>>
     ensures comes { MatchResult result (IsWarriorOf settings.now) (IsNoneOf settings.now) }
-    ensures taken { From (is_input source.entry) (IsTaken settings.now result) (I.remaining input.old)
-        (I.remaining input.new) }
+    ensures taken { From (is_input source.entry) (IsTaken (option_copied definition.entry) settings.now result)
+        (I.remaining input.old) (I.remaining input.new) }
 {
     match source {
-        Source::Input(name) => warrior_of(alloc, settings, name, input),
+        Source::Input(name) => warrior_of(alloc, settings, definition, name, input),
         Source::File(path) => match open_source(rt, path) {
-            Ok(mut file) => warrior_of(alloc, settings, path, &mut file),
+            Ok(mut file) => warrior_of(alloc, settings, definition, path, &mut file),
             Err(trouble) => Err(NoWarrior::Failed(trouble)),
         },
     }
@@ -78,15 +84,21 @@ pub(crate) fn warrior_from<'f, R: Files, A: Allocator + Copy, I: Read>(
 fn warrior_of<'f, A: Allocator + Copy, I: Read>(
     alloc: A,
     settings: &Settings,
+    definition: Option<&'f str>,
     name: &'f str,
     reader: &mut I,
 ) -> Result<Warrior<A>, NoWarrior<'f, A>>
     ensures comes { MatchResult result (IsWarriorOf settings.now) (IsNoneOf settings.now) }
-    ensures taken { IsTaken settings.now result (I.remaining reader.old) (I.remaining reader.new) }
+    ensures taken { IsTaken (option_copied definition.entry) settings.now result (I.remaining reader.old)
+        (I.remaining reader.new) }
 {
-    let text = match text_from(alloc, name, reader) {
-        Ok(text) => text,
+    let source = match text_from(alloc, name, reader) {
+        Ok(source) => source,
         Err(trouble) => return Err(NoWarrior::Failed(trouble)),
+    };
+    let text = match defined_text(alloc, definition, source) {
+        Ok(text) => text,
+        Err(trouble) => return Err(undefined(trouble)),
     };
     match assemble(alloc, text.as_slice(), settings) {
         Ok(warrior) => Ok(warrior),
@@ -97,8 +109,19 @@ fn warrior_of<'f, A: Allocator + Copy, I: Read>(
     }
 }
 
+/// No warrior, for the trouble that nothing is assembled for a source, or that memory ran out.
+fn undefined<'f, A: Allocator>(trouble: Trouble<'f>) -> NoWarrior<'f, A>
+    ensures { (define : Option (List ℕ)) → (source : List ℕ) → IsUndefined define source trouble.entry
+        → IsUndefinedFor define source result }
+{
+    match trouble.fault {
+        Fault::Memory => NoWarrior::Failed(Trouble::memory()),
+        _ => NoWarrior::Undefined(trouble),
+    }
+}
+
 /// The answer if there is no warrior: the line of a refusal, and where in the source it is and why; or its line of
-/// JSON.
+/// JSON. If nothing is assembled for a source, the answer has a note of that, and no line.
 pub fn answer_none<'f, A: Allocator + Copy>(
     alloc: A,
     settings: &Settings,
@@ -106,7 +129,7 @@ pub fn answer_none<'f, A: Allocator + Copy>(
     view: View,
 ) -> Result<Answer<A>, Trouble<'f>>
     requires { IsNoneOf settings.now none }
-    ensures { MatchResult result (IsAnswer settings.now view (λ text. ⊥) ⊥) IsReadFault }
+    ensures { MatchResult result (IsAnswer settings.now view (λ text. ⊥) (WasUndefined none.entry)) IsReadFault }
 {
     match none {
         NoWarrior::Refused(path, text, fault) => {
@@ -114,5 +137,10 @@ pub fn answer_none<'f, A: Allocator + Copy>(
             refusal(alloc, settings, RefusedSource { path, text, fault }, view)
         }
         NoWarrior::Failed(trouble) => Err(trouble),
+        NoWarrior::Undefined(trouble) => Ok(Answer {
+            status: Status::Refused,
+            text: Vec::new(alloc),
+            note: named_note(alloc, trouble),
+        }),
     }
 }

@@ -1,11 +1,11 @@
 -- One source more of a field: for `field_of` and `put_member`.
 use Rattle.std.proofs.Common.{◌≡◌, ℕ, ◌+◌, ◌<◌, ◌≤◌, Bool, true, false, ◌&&◌, List, [], ◌∷◌, ◌++◌, map, length, take, get_or, All, Option, None, Some, refl, sym, ap, subst, ◌∙◌, append-nil}
 use Rattle.std.{specs.Io.KnownBytes.Keeps, specs.List.flat_map, proofs.{KnownBytes.{Keeps-refl, Keeps-trans}, lemmas.List.{map_push, take_all, take_more}}}
-use Rattle.std.proofs.lemmas.List.{Concat.flat_map-append, Elements.{All-nil, All-push}, Folds.list_all-append}
-use Rattle.war_types.specs.declared.settings.RawSettings.{RawSettings}
+use Rattle.std.proofs.lemmas.List.{Concat.flat_map-append, Elements.{All-get_or, All-nil, All-push}, Folds.list_all-append}
+use Rattle.war_types.specs.{Warrior.Fits, declared.settings.RawSettings.RawSettings}
 use Rattle.koth_commands.{specs.{Told.WritesSome, Trouble.{Tells, no_memory}, declared.{status.Status.Status, trouble.Trouble.Trouble}}, proofs.Told.{keeps_some, writes_more}}
 use Rattle.koth_contests.specs.{Lines.{Entrant, entrant}, Met.{IsMet, Met, TellsNone, all_fought, is_fought, met}}
-use Rattle.koth_field.specs.Field.{EndsField, IsField, PutsMember, entrants_at, entrants_met}
+use Rattle.koth_field.specs.{Field.{EndsField, IsField, PutsMember, entrant_of, entrants_at, entrants_met, entrants_of}, Digest.{entrant_text, field_text}, declared.field.Member.Member}
 
 -- how it ends if no source comes after those that were read
 abbrev pub status_of : Bool → Status
@@ -131,3 +131,20 @@ module _ (s : RawSettings) (files : List (List ℕ)) (place : ℕ) (entrants : L
           (field status so_far true is, subst (λ t. TellsSo t e f) ends told)
       ends_as false is ends = subst (λ t. EndsField s files entrants t e f) (sym ends)
           (field status so_far false is, some_so_far status e f told)
+
+-- ---- the text of a field
+
+module _ {A : Type 0} (core : ℕ) (members : List (Member A)) (i : ℕ) (m : Member A) (within : i < length members) (is : m ≡ get_or members i m) where
+  -- with one member more
+  pub text_more : field_text core (entrants_of (take (i + 1) members)) ≡ field_text core (entrants_of (take i members)) ++ entrant_text core (entrant_of m)
+  text_more =
+      let f = entrant_text core in
+      let first = entrants_of (take i members) in
+      ap (λ l. flat_map f (entrants_of l)) (take_more members i m within ∙ ap (λ x. take i members ++ x ∷ []) (sym is))
+      ∙ ap (flat_map f) (map_push (λ (x : Member A). entrant_of x) (take i members) m)
+      ∙ flat_map-append f first (entrant_of m ∷ [])
+      ∙ ap (λ l. flat_map f first ++ l) (append-nil (f (entrant_of m)))
+
+pub fits_at : {A : Type 0} (s : RawSettings) (members : List (Member A)) (i : ℕ) (m : Member A) → i < length members → m ≡ get_or members i m
+    → All (λ (x : Member A). Fits s x.warrior) members → Fits s m.warrior
+fits_at {A} s members i m within is fit = subst (λ (x : Member A). Fits s x.warrior) (sym is) (All-get_or (λ (x : Member A). Fits s x.warrior) members i m within fit)

@@ -12,6 +12,10 @@ is_of_settings Fault.Occupied = false
 is_of_settings Fault.NotAHill = false
 is_of_settings Fault.OldHill = false
 is_of_settings Fault.Damaged = false
+is_of_settings Fault.NoEntry = false
+is_of_settings Fault.BadDefine = false
+is_of_settings Fault.NoEqu = false
+is_of_settings Fault.NoKind = false
 is_of_settings Fault.Stream = false
 is_of_settings Fault.Memory = false
 

@@ -1,4 +1,5 @@
 mod JsonLines
+mod Lines
 mod Parts
 mod Replies
 mod Rows

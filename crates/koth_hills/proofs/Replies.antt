@@ -2,7 +2,7 @@
 use Rattle.std.proofs.Common.{◌≡◌, ◌⊎◌, ◌∙◌, ℕ, List, [], Option, None, Some, Result, Ok, Err, OnErr, IfSome, false, true≢false, inl, inr, refl, ap, sym, subst}
 use Rattle.{war_types.specs.declared.fault.AsmFault.AsmFault, koth_hill.specs.{Kept.Kept, declared.verdict.Verdict.Verdict}, sector_disk.specs.Facts.DeviceFacts, hill_store.specs.{Seen.{Seen, Submits}, declared.reply.Reply.Reply}}
 use Rattle.{koth_words.specs.declared.requests.View.View, koth_views.specs.{Roster.roster, declared.entrants.Entered.Entered}, koth_commands.specs.{Answer.AnswerParts, declared.status.Status.Status}}
-use Rattle.koth_hills.specs.{Hills.{AnswersReply, IsPlacing, IsReplyTo, SaysReply, Submitted}, Json.{IsDue, IsRefused, settled_lines}, Placing.outcome_view, ReplyStatus.reply_status}
+use Rattle.koth_hills.specs.{Hills.{AnswersReply, IsPlacing, IsReplyTo, SaysReply, Submitted}, Json.{IsDue, IsLineOf, IsRefused, settled_lines}, Placing.outcome_view, ReplyStatus.reply_status}
 
 -- a source that is refused, and one for which the device is worn out, end so
 pub refused-status : (reply : Reply) → ((fault : AsmFault) × (reply ≡ Reply.Refused fault)) ⊎ (reply ≡ Reply.Worn) → Status.Refused ≡ reply_status reply
@@ -34,11 +34,13 @@ on_err (Err e) P Q holds p = holds p
 
 module _ {D : Type 0} (facts : DeviceFacts D) (old new : Seen D) (source : List ℕ) (view : View) where
   -- the answer to a submission, from that to its reply
-  pub submitted : (reply : Reply) (more : List ℕ) (answer : AnswerParts) → Submits facts old source reply new
-      → IsPlacing view old.hill new.hill source reply more → AnswersReply view reply more answer ⊎ AnswersReply view reply [] answer
+  pub submitted : (reply : Reply) (placed more : List ℕ) (answer : AnswerParts) → Submits facts old source reply new → IsLineOf view old.hill source reply placed
+      → IsPlacing view old.hill new.hill source reply more → AnswersReply view placed reply more answer ⊎ AnswersReply view placed reply [] answer
       → Submitted facts old source new view answer
-  submitted reply more answer submits placing (inl whole) = (reply, submits, (more, placing, whole))
-  submitted reply more answer submits placing (inr line) = (reply, submits, ([], inl refl, line))
+  submitted reply placed more answer submits line placing (inl whole) =
+      (reply, submits, (record { placed = placed; more = more }, record { placed = line; more = placing }, whole))
+  submitted reply placed more answer submits line placing (inr first) =
+      (reply, submits, (record { placed = placed; more = [] }, record { placed = line; more = inl refl }, first))
 
   -- the reply of a store that was open, by its hills
   is_reply : (reply : Reply) → Submits facts old source reply new → old.reopen ≡ false → IsReplyTo old.hill source reply new.hill

@@ -3,7 +3,7 @@ use Rattle.std.proofs.Common.{◌≡◌, ◌⊎◌, ◌∙◌, ℕ, List, [], Op
 use Rattle.{koth_hill.specs.{Kept.Kept, declared.verdict.Verdict.Verdict}, sector_disk.specs.Facts.DeviceFacts}
 use Rattle.hill_store.specs.{declared.reply.Reply.Reply, Earned.kept_reply, Read.{IsJudged, IsTried}, Seen.{Seen, Submits}}
 use Rattle.{koth_words.specs.declared.requests.View.View, koth_commands.specs.Answer.AnswerParts}
-use Rattle.koth_hills.specs.{Hills.AnswersReply, Json.IsDue, Trials.{IsTrialText, IsUnjudged, SaysTrial, Tried}}
+use Rattle.koth_hills.specs.{Hills.AnswersReply, Json.{IsDue, IsLineOf}, Trials.{IsTrialText, IsUnjudged, SaysTrial, Tried}}
 
 -- what holds on success, seen another way
 pub if_ok : {T E : Type 0} (result : Result T E) (P Q : T → Type 0) → ((x : T) → P x → Q x) → IfOk result P → IfOk result Q
@@ -18,19 +18,19 @@ told_none View.Json hill judged = inl refl
 
 module _ {D : Type 0} (facts : DeviceFacts D) (store : Seen D) (source : List ℕ) where
   -- the answer that foretells
-  pub foretold : (view : View) (judged : Verdict) (reply : Reply) (more : List ℕ) (answer : AnswerParts) → IsDue store.hill source judged
-      → reply ≡ kept_reply store.hill source → IsTrialText view store.hill judged more → AnswersReply view reply more answer ⊎ AnswersReply view reply [] answer
-      → Tried facts store source view answer
-  foretold view judged reply more answer due earned told (inl whole) =
-      (reply, more, inl (record { judged = judged; due = due; earned = earned; told = told }), whole)
-  foretold view judged reply more answer due earned told (inr line) =
-      (reply, [], inl (record { judged = judged; due = due; earned = earned; told = told_none view store.hill judged }), line)
+  pub foretold : (view : View) (judged : Verdict) (reply : Reply) (placed more : List ℕ) (answer : AnswerParts) → IsDue store.hill source judged
+      → reply ≡ kept_reply store.hill source → IsLineOf view store.hill source reply placed → IsTrialText view store.hill judged more
+      → AnswersReply view placed reply more answer ⊎ AnswersReply view placed reply [] answer → Tried facts store source view answer
+  foretold view judged reply placed more answer due earned line told (inl whole) =
+      (reply, record { placed = placed; more = more }, inl (record { judged = judged; due = due; earned = earned; placed = line; more = told }), whole)
+  foretold view judged reply placed more answer due earned line told (inr first) =
+      (reply, record { placed = placed; more = [] }, inl (record { judged = judged; due = due; earned = earned; placed = line; more = told_none view store.hill judged }), first)
 
   -- or the reply of a submission that changes nothing
-  pub answered : (view : View) (reply : Reply) (answer : AnswerParts) → Submits facts store source reply store
-      → AnswersReply view reply [] answer ⊎ AnswersReply view reply [] answer → Tried facts store source view answer
-  answered view reply answer submits (inl line) = (reply, [], inr (submits, refl), line)
-  answered view reply answer submits (inr line) = (reply, [], inr (submits, refl), line)
+  pub answered : (view : View) (reply : Reply) (placed : List ℕ) (answer : AnswerParts) → Submits facts store source reply store
+      → AnswersReply view placed reply [] answer ⊎ AnswersReply view placed reply [] answer → Tried facts store source view answer
+  answered view reply placed answer submits (inl line) = (reply, record { placed = placed; more = [] }, inr (submits, refl), line)
+  answered view reply placed answer submits (inr line) = (reply, record { placed = placed; more = [] }, inr (submits, refl), line)
 
   -- a reply that changes nothing of a store that was open has no verdict
   is_unjudged : (reply : Reply) → Submits facts store source reply store → store.reopen ≡ false → IsUnjudged store.hill source reply
@@ -44,8 +44,8 @@ module _ {D : Type 0} (facts : DeviceFacts D) (store : Seen D) (source : List �
 
   -- the answer of a store's hill is that of some hill
   pub says_trial : (view : View) (answer : AnswerParts) → store.reopen ≡ false → Tried facts store source view answer → SaysTrial view source answer
-  says_trial view answer is_open (reply, more, inl foretold, says) = (store.hill, reply, more, inl foretold, says)
-  says_trial view answer is_open (reply, more, inr other, says) = (store.hill, reply, more, inr (is_unjudged reply other.0 is_open, other.1), says)
+  says_trial view answer is_open (reply, told, inl foretold, says) = (store.hill, reply, told, inl foretold, says)
+  says_trial view answer is_open (reply, told, inr other, says) = (store.hill, reply, told, inr (is_unjudged reply other.0 is_open, other.1), says)
 
   module _ (r : Option (Result Verdict Reply)) (tried : IsTried facts None store source r) where
     pub judged_of : (judged : Verdict) → r ≡ Some (Ok judged) → IsJudged store source judged

@@ -1,14 +1,14 @@
 -- What the commands on a hill in a file answer, and how they end.
-use Rattle.std.specs.{Prelude.{◌≡◌, ◌≢◌, ◌⊎◌, ℕ, nat_lt, Bool, if◌then◌else◌, List, [], Option, ◌++◌, Ok, Err, IfSome, codes}, Io.KnownBytes.Keeps}
-use Rattle.{war_types.specs.{Warrior.WarriorParts, declared.fault.AsmFault.AsmFault}, redcode_asm.specs.Assembly.assembly}
-use Rattle.{koth_hill.specs.{Kept.{Kept, table_kept}, declared.verdict.Verdict.Verdict}, sector_disk.specs.Facts.DeviceFacts}
+use Rattle.std.specs.{Prelude.{◌≡◌, ◌≢◌, ◌⊎◌, ℕ, nat_lt, Bool, if◌then◌else◌, List, [], Option, None, Some, ◌++◌, Ok, Err, IfSome, codes, slice_get}, Io.KnownBytes.Keeps}
+use Rattle.{war_types.specs.{Warrior.WarriorParts, declared.fault.AsmFault.AsmFault}, redcode_asm.specs.{Assembly.assembly, LoadText.load_text}}
+use Rattle.{koth_hill.specs.{Hill.{Member, member_of}, Kept.{Kept, table_kept}, declared.verdict.Verdict.Verdict}, sector_disk.specs.Facts.DeviceFacts}
 use Rattle.{hill_store.specs.{Earned.{kept_next, kept_reply}, Seen.{Seen, Submits}, declared.reply.Reply.Reply}, koth_session.specs.Reply.reply_line}
 use Rattle.koth_protocol.specs.{Matches.matches_text, Table.show_text}
 use Rattle.{koth_json.specs.Hill.hill_text, koth_words.specs.{Settings.given_as, declared.requests.Shown.Shown, declared.requests.View.View}}
 use Rattle.koth_views.specs.{Standing.hill_view, Matrix.matches_view, Roster.roster, declared.entrants.Entered.Entered}
 use Rattle.koth_commands.specs.{Answer.{AnswerParts, answer_parts}, Told.TellsWord, Streams.{From, Streams, Takes, TakesSome}, declared.status.Status.Status}
 use Rattle.{koth_files.specs.Trouble.IsOfHill, koth_keeping.specs.Answers.{Ends, Outcome}}
-use Rattle.koth_hills.specs.{Json.{IsDue, IsJsonText}, Placing.placing_view, ReplyStatus.reply_status, Settings.settings_text, Width.{longest_line, terminal_width}}
+use Rattle.koth_hills.specs.{Json.{IsDue, IsJsonText, IsLineOf}, Placing.placing_view, ReplyStatus.reply_status, Settings.settings_text, Width.{longest_line, terminal_width}}
 
 -- What stands after the line of a reply to a source that turned the old hill into the new one: for people what became
 -- of its warrior, as lines of JSON its matches, unless there was no memory for that. What is told of its matches is by
@@ -17,12 +17,12 @@ abbrev pub IsPlacing : View → Kept → Kept → List ℕ → Reply → List �
 IsPlacing view old new source reply more =
     (more ≡ []) ⊎ ((judged : Option Verdict) × IfSome judged (IsDue old source) × (more ≡ placing_view view (roster old) new reply judged))
 
--- the text of an answer to a source: the line of its reply and this text after it, and of a refusal as JSON a line that
--- has the reason too
-abbrev pub IsReplyText : View → Reply → List ℕ → List ℕ → Type 0
-IsReplyText View.Plain reply more text = text ≡ reply_line reply ++ more
-IsReplyText View.Table reply more text = text ≡ reply_line reply ++ more
-IsReplyText View.Json reply more text = IsJsonText reply more text
+-- the text of an answer to a source: the line of its reply and this text after it. As JSON the line of a warrior that is
+-- placed is this one, and that of a refusal has the reason too
+abbrev pub IsReplyText : View → List ℕ → Reply → List ℕ → List ℕ → Type 0
+IsReplyText View.Plain placed reply more text = text ≡ reply_line reply ++ more
+IsReplyText View.Table placed reply more text = text ≡ reply_line reply ++ more
+IsReplyText View.Json placed reply more text = IsJsonText placed reply more text
 
 -- the note of an answer to a source: some text that explains a refusal, and else nothing; beside lines of JSON nothing
 abbrev pub IsNote : View → Reply → List ℕ → Type 0
@@ -30,15 +30,25 @@ IsNote View.Plain reply note = ((fault : AsmFault) → reply ≢ Reply.Refused f
 IsNote View.Table reply note = ((fault : AsmFault) → reply ≢ Reply.Refused fault) → note ≡ []
 IsNote View.Json reply note = note ≡ []
 
--- the answer to a source: its reply in this view and this text after it
-pub record AnswersReply (view : View) (reply : Reply) (more : List ℕ) (answer : AnswerParts) : Type 0 where
+-- the answer to a source: its reply in this view, of a warrior that is placed this line as JSON, and this text after it
+pub record AnswersReply (view : View) (placed : List ℕ) (reply : Reply) (more : List ℕ) (answer : AnswerParts) : Type 0 where
   pub ends : answer.status ≡ reply_status reply
-  pub text : IsReplyText view reply more answer.text
+  pub text : IsReplyText view placed reply more answer.text
   pub note : IsNote view reply answer.note
 
--- the answer to a submission that turned the old hill into the new one
+-- the line of a warrior that is placed, as JSON, and what stands after the line of a reply
+pub record Told : Type 0 where
+  pub placed : List ℕ
+  pub more : List ℕ
+
+-- both of a submission that turned the old hill into the new one
+pub record IsTold (view : View) (old new : Kept) (source : List ℕ) (reply : Reply) (told : Told) : Type 0 where
+  pub placed : IsLineOf view old source reply told.placed
+  pub more : IsPlacing view old new source reply told.more
+
+-- the answer to that submission
 abbrev pub SaysSubmitted : View → Kept → Kept → List ℕ → Reply → AnswerParts → Type 0
-SaysSubmitted view old new source reply answer = (more : List ℕ) × IsPlacing view old new source reply more × AnswersReply view reply more answer
+SaysSubmitted view old new source reply answer = (told : Told) × IsTold view old new source reply told × AnswersReply view told.placed reply told.more answer
 
 -- the answer to the submission of a source to a store
 abbrev pub Submitted : {D : Type 0} → DeviceFacts D → Seen D → List ℕ → Seen D → View → AnswerParts → Type 0
@@ -72,14 +82,15 @@ EndsSource of_input Says status before after =
     Ends (λ outcome. From of_input (λ i j. AnswersSource Says i j outcome) before.input after.input) status before after
 
 -- what is to be seen of a hill: its table, with the matrix of its matches or without, or its settings, with the seed or
--- without
+-- without; or the load text of the warrior with this entry
 pub record Sight : Type 0 where
   pub matches : Bool
   pub settings : Bool
   pub with_seed : Bool
+  pub entry : Option ℕ
 
 abbrev pub sight_of : Shown → Sight
-sight_of shown = record { matches = shown.matches; settings = shown.settings; with_seed = shown.with_seed }
+sight_of shown = record { matches = shown.matches; settings = shown.settings; with_seed = shown.with_seed; entry = shown.entry }
 
 -- the table of this hill, by the results that it keeps, and after it their matrix, if that is asked for: for programs
 abbrev pub shown_lines : Bool → Kept → List ℕ
@@ -103,9 +114,31 @@ shown_text View.Json matches hill = hill_text (given_as hill.settings) matches h
 abbrev pub sight_text : View → Sight → Kept → List ℕ
 sight_text view sight hill = if sight.settings then settings_text sight.with_seed hill.settings else shown_text view sight.matches hill
 
+abbrev pub SaysSight : View → Sight → Kept → AnswerParts → Type 0
+SaysSight view sight hill answer = answer ≡ answer_parts Status.Done (sight_text view sight hill) []
+
+-- this warrior is on the hill, under this entry
+pub record IsWarriorAt (members : List Member) (entry : ℕ) (warrior : WarriorParts) : Type 0 where
+  pub place : ℕ
+  pub age : ℕ
+  pub is : slice_get members place ≡ Some (member_of entry age warrior)
+
+-- a warrior on the hill has this entry
+abbrev pub HasEntry : List Member → ℕ → Type 0
+HasEntry members entry = (warrior : WarriorParts) × IsWarriorAt members entry warrior
+
+-- the answer with the load text of the warrior with this entry
+abbrev pub SaysWarrior : ℕ → Kept → AnswerParts → Type 0
+SaysWarrior entry hill answer =
+    (warrior : WarriorParts) × IsWarriorAt hill.members entry warrior × (answer ≡ answer_parts Status.Done (load_text hill.settings.core warrior) [])
+
+abbrev pub SaysSeen : Option ℕ → View → Sight → Kept → AnswerParts → Type 0
+SaysSeen None view sight hill answer = SaysSight view sight hill answer
+SaysSeen (Some entry) view sight hill answer = SaysWarrior entry hill answer
+
 -- the answer with that of some hill
 abbrev pub SaysShown : View → Sight → AnswerParts → Type 0
-SaysShown view sight answer = (hill : Kept) × (answer ≡ answer_parts Status.Done (sight_text view sight hill) [])
+SaysShown view sight answer = (hill : Kept) × SaysSeen sight.entry view sight hill answer
 
 -- what is written on standard error before the hill in a file is opened: nothing, or that one of its headers can't be
 -- read

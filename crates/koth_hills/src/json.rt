@@ -1,47 +1,78 @@
 //! The lines of JSON of `submit` and `try`.
 
-ghost use Rattle.std.specs.Prelude.{◌≡◌, ◌+◌, ◌≤◌, ◌++◌, decimal, length, IfOk, OnOk};
-ghost use Rattle.koth_json.specs.Reply.{fell_line, placed_line, worn_line};
+ghost use Rattle.std.specs.Prelude.{◌≡◌, ◌+◌, ◌≤◌, ◌++◌, [], true, decimal, length, vec_capacity, vec_len, IfOk, OnOk};
+ghost use Rattle.koth_json.specs.Reply.{fell_line, judged_line, worn_line};
 ghost use Rattle.koth_hills.specs.Json.{fallen_lines, fell_lines, json_line, judged_lines, least_lines, settled_lines, youngest_lines};
 
 use crate::settled::Settled;
+use crate::submit::Rooms;
 use hill_store::Reply;
 use itoa::Buffer;
 use koth_hill::{Hill, Verdict};
-use koth_json::{put_bouts, put_least};
+use koth_json::{put_bouts, put_judged, put_least};
 use koth_match::Bout;
 use koth_protocol::{Line, refusal_line};
 use koth_session::line_of;
 use koth_views::least_of;
+use koth_words::View;
 use std::alloc::{AllocError, Allocator};
 
-/// The line of a reply. It needs no memory.
-pub(crate) fn json_line(reply: &Reply) -> Line
-    ensures { result ≡ json_line reply.now }
+/// The line of a warrior that this verdict is to place on the hill, with who is pushed off, if lines of JSON are asked
+/// for; else it is empty. The error is lack of memory.
+pub(crate) fn line_for<A: Allocator + Copy>(
+    alloc: A,
+    view: View,
+    hill: &Hill<A>,
+    judged: &Verdict,
+) -> Result<Vec<u8, A>, AllocError>
+    ensures { view ≡ View.Json → judged.now.stays ≡ true
+        → IfOk result (λ line. line.items ≡ judged_line hill.now judged.now) }
 {
-    match *reply {
-        Reply::Placed { entry, rank, score } => placed_line(entry, rank, score),
-        Reply::Fell { entry, score } => fell_line(entry, score),
-        Reply::Refused(fault) => refusal_line(fault),
-        Reply::Memory => line_of(&Reply::Memory),
-        Reply::Worn => worn_line(),
-        Reply::Disk => line_of(&Reply::Disk),
-        Reply::Reopen => line_of(&Reply::Reopen),
+    match view {
+        View::Json => judged_line(alloc, hill, judged),
+        View::Plain | View::Table => Ok(Vec::new(alloc)),
     }
 }
 
-fn placed_line(entry: u64, rank: u32, points: u32) -> Line
-    ensures { result ≡ placed_line entry rank points }
+fn judged_line<A: Allocator + Copy>(
+    alloc: A,
+    hill: &Hill<A>,
+    judged: &Verdict,
+) -> Result<Vec<u8, A>, AllocError>
+    ensures { judged.now.stays ≡ true → IfOk result (λ line. line.items ≡ judged_line hill.now judged.now) }
 {
-    let mut line = Line::new();
-    line.put(b"{\"type\":\"placed\",\"entry\":");
-    line.put_number(entry);
-    line.put(b",\"rank\":");
-    put_short(&mut line, rank);
-    line.put(b",\"points\":");
-    put_short(&mut line, points);
-    line.put(b"}\n");
-    line
+    let mut line = Vec::new(alloc);
+    if judged.stays {
+        put_judged(alloc, &mut line, hill, judged)?;
+    }
+    Ok(line)
+}
+
+/// The line of a reply, in its room. It needs no memory.
+pub(crate) fn json_line<A: Allocator>(rooms: Rooms<A>, reply: &Reply) -> Vec<u8, A>
+    requires empty { rooms.line.items ≡ [] }
+    requires fits { vec_len rooms.line + 96 ≤ vec_capacity rooms.line }
+    ensures { result.items ≡ json_line rooms.placed.items reply.now }
+{
+    match *reply {
+        Reply::Placed { .. } => rooms.placed,
+        Reply::Fell { entry, score } => put_in(rooms.line, fell_line(entry, score)),
+        Reply::Refused(fault) => put_in(rooms.line, refusal_line(fault)),
+        Reply::Memory => put_in(rooms.line, line_of(&Reply::Memory)),
+        Reply::Worn => put_in(rooms.line, worn_line()),
+        Reply::Disk => put_in(rooms.line, line_of(&Reply::Disk)),
+        Reply::Reopen => put_in(rooms.line, line_of(&Reply::Reopen)),
+    }
+}
+
+/// The room with this line in it.
+fn put_in<A: Allocator>(mut room: Vec<u8, A>, line: Line) -> Vec<u8, A>
+    requires empty { room.items ≡ [] }
+    requires fits { vec_len room + 96 ≤ vec_capacity room }
+    ensures { result.items ≡ line }
+{
+    line.append_to(&mut room);
+    room
 }
 
 fn fell_line(entry: u64, points: u32) -> Line
@@ -79,7 +110,7 @@ fn put_short(line: &mut Line, number: u32)
 pub(crate) fn matches_lines<A: Allocator + Copy>(
     alloc: A,
     hill: &Hill<A>,
-    settled: &Settled,
+    settled: &Settled<A>,
 ) -> Result<Vec<u8, A>, AllocError>
     ensures { IfOk result (λ text. text.items ≡ settled_lines hill.now settled.now.reply settled.now.judged) }
 {

@@ -4,7 +4,7 @@
 //! it delivers that. The files are `koth_files`'. The modules:
 //!
 //! - `damage`: what is reported about a header that can't be read, before the hill is opened;
-//! - `submit`, `trial`, `show`, `page`: a command each;
+//! - `submit`, `trial`, `show`, `page`: a command each; `entry`: one warrior, for `show`;
 //! - `settled`: a submission, whose matches are fought once, and the verdict that it had;
 //! - `outcome` and `json`: what became of a warrior, for people and as lines of JSON;
 //! - `settings`: the settings of a hill, as options that can be pasted, and `width`: how wide a text is;
@@ -12,13 +12,14 @@
 //!
 //! The main clauses: `submit` answers with the line of the reply that this very submission had (`Submitted`), `try`
 //! with that of the reply which it would have, and the store is as it was (`Tried`, `unchanged`), and `show` with the
-//! table of this store's hill, or its settings (`sight_text`). A source is what its reader gave, the input or an opened
+//! table of this store's hill, its settings (`sight_text`), or the load text of one warrior (`SaysWarrior`). A source is what its reader gave, the input or an opened
 //! file (`AnswersSource`). Of files no contract can say what they hold.
 //!
 //! A hill must be opened before a source is read. `try`, `show` and `page` take no lock and write nothing.
 #![tactic(auto)]
 
 mod damage;
+mod entry;
 mod json;
 mod outcome;
 mod page;
@@ -33,5 +34,5 @@ mod width;
 pub use damage::tell_lost_header;
 pub use page::perform_page;
 pub use show::perform_show;
-pub use submit::{REPLY_LINE, SourceText, perform_submit, reply_answer};
+pub use submit::{REPLY_LINE, Rooms, SourceText, perform_submit, reply_answer};
 pub use trial::perform_try;

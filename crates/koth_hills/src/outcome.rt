@@ -19,7 +19,7 @@ pub(crate) fn placing_text<A: Allocator + Copy>(
     view: View,
     before: &Option<Vec<Entered, A>>,
     hill: &Hill<A>,
-    settled: &Settled,
+    settled: &Settled<A>,
 ) -> Vec<u8, A>
     ensures plain { view ≡ View.Plain → result.items ≡ [] }
     ensures none { view ≡ View.Table → before.now ≡ None → result.items ≡ [] }
@@ -44,7 +44,7 @@ fn told_text<A: Allocator + Copy>(
     alloc: A,
     before: &Option<Vec<Entered, A>>,
     hill: &Hill<A>,
-    settled: &Settled,
+    settled: &Settled<A>,
 ) -> Vec<u8, A>
     ensures none { before.now ≡ None → result.items ≡ [] }
     ensures some { IfSome before.now (λ stood. (result.items ≡ [])
@@ -65,7 +65,7 @@ fn outcome_text<A: Allocator + Copy>(
     alloc: A,
     before: &[Entered],
     hill: &Hill<A>,
-    settled: &Settled,
+    settled: &Settled<A>,
 ) -> Result<Vec<u8, A>, AllocError>
     ensures { IfOk result (λ text. text.items
         ≡ outcome_view before.now hill.now settled.now.reply settled.now.judged) }

@@ -1,13 +1,14 @@
 //! The command `show`: the table of the hill in a file, and the matrix of its matches.
 
 ghost use Rattle.std.specs.Prelude.{◌≡◌, IfOk, true};
-ghost use Rattle.{koth_keeping.specs.Answers.Answers, koth_hills.specs.Hills.{SaysShown, shown_lines, shown_matrix, shown_table, shown_text, sight_of, sight_text}};
+ghost use Rattle.{koth_keeping.specs.Answers.Answers, koth_hills.specs.Hills.{SaysShown, SaysSight, shown_lines, shown_matrix, shown_table, shown_text, sight_of, sight_text}};
 
+use crate::entry::answer_entry;
 use crate::settings::settings_text;
 use crate::width::{TERMINAL_WIDTH, longest_line};
 use hill_store::Store;
+use koth_commands::Answer;
 use koth_commands::trouble::Trouble;
-use koth_commands::{Answer, Status};
 use koth_files::look_hill;
 use koth_hill::Hill;
 use koth_json::hill_text;
@@ -21,7 +22,8 @@ use std::rt::Files;
 
 /// Answers with the table of the hill in a file, as a session answers `SHOW`, in columns for people, or as lines of
 /// JSON. If that is asked for, the matrix of its matches follows: who won how many rounds against whom. Or it answers
-/// with the hill's settings as options in place of these. The file is only read, and its lock is not taken: so `show`
+/// with the hill's settings as options in place of these, or with the load text of the warrior with an entry. The file
+/// is only read, and its lock is not taken: so `show`
 /// can show a hill while a service works on it.
 pub fn perform_show<'s, R: Files, A: Allocator + Copy>(
     rt: &R,
@@ -32,16 +34,25 @@ pub fn perform_show<'s, R: Files, A: Allocator + Copy>(
     ensures { Answers (SaysShown view (sight_of shown.entry)) result }
 {
     match look_hill(rt, alloc, shown.hill) {
-        Ok(store) => {
-            let text = sight_text(alloc, &store, shown, view)?;
-            Ok(Answer {
-                status: Status::Done,
-                text,
-                note: Vec::new(alloc),
-            })
-        }
+        Ok(store) => match shown.entry {
+            Some(entry) => answer_entry(alloc, store.hill(), shown.hill, entry),
+            None => answer_sight(alloc, &store, shown, view),
+        },
         Err(trouble) => Err(trouble),
     }
+}
+
+/// Answers with what is to be seen of a store's hill.
+fn answer_sight<'s, D: Device, A: Allocator + Copy>(
+    alloc: A,
+    store: &Store<D, A>,
+    shown: Shown<'s>,
+    view: View,
+) -> Result<Answer<A>, Trouble<'s>>
+    ensures { Answers (SaysSight view (sight_of shown.entry) store.now.hill) result }
+{
+    let text = sight_text(alloc, store, shown, view)?;
+    Ok(Answer::done(alloc, text))
 }
 
 /// The table of a store's hill, or its settings in place of that.

@@ -1,6 +1,6 @@
 //! The command `submit`: one submission to the hill in a file.
 
-ghost use Rattle.std.specs.Prelude.{◌≡◌, ◌+◌, ◌≤◌, ◌⊎◌, ◌++◌, [], false, None, IfOk, IfSome, OnErr, vec_capacity, vec_len};
+ghost use Rattle.std.specs.Prelude.{◌≡◌, ◌+◌, ◌≤◌, ◌⊎◌, ◌++◌, List, ℕ, [], false, None, IfOk, IfSome, OnErr, vec_capacity, vec_len};
 ghost use Rattle.{koth_views.specs.Roster.roster, koth_commands.specs.Streams.{From, is_input}};
 ghost use Rattle.koth_hills.specs.{Hills.{AnswersReply, AnswersSource, IsNote, SaysReply, Submitted}, Json.{json_line, IsRefused}, ReplyStatus.reply_status};
 
@@ -104,6 +104,15 @@ pub struct SourceText<'s> {
     pub text: &'s [u8],
 }
 
+/// What the line of a reply is put into.
+#[derive(Drop)]
+pub struct Rooms<A: Allocator> {
+    /// It is empty, and has room for `REPLY_LINE` bytes.
+    pub line: Vec<u8, A>,
+    /// As JSON, the whole line of a warrior that is placed.
+    pub placed: Vec<u8, A>,
+}
+
 /// Submits a source to a store. The answer is the reply's line; in the view for people what became of the warrior
 /// follows, and as lines of JSON its matches. If there is no memory for the line, nothing is submitted. A refusal as
 /// JSON is a longer line, for which there may be no memory after that.
@@ -116,53 +125,65 @@ fn submit_source<D: Device, A: Allocator + Copy>(
     ensures submitted { IfOk result (Submitted D.facts store.old source.entry.text.now store.new view) }
     ensures memory { OnErr result (store.new ≡ store.old) }
 {
-    let room = Vec::with_capacity(alloc, REPLY_LINE)?;
+    let line = Vec::with_capacity(alloc, REPLY_LINE)?;
     let before = roster_for(alloc, view, store.hill());
-    let settled = settle(store, source.text);
+    let settled = settle(alloc, store, source.text, view);
     let placing = placing_text(alloc, view, &before, store.hill(), &settled);
     let settings = store.hill().settings();
     let more = placing.as_slice();
-    reply_answer(alloc, room, settings, source, view, &settled.reply, more)
+    let reply = settled.reply;
+    let placed = settled.placed;
+    reply_answer(
+        alloc,
+        Rooms { line, placed },
+        settings,
+        source,
+        view,
+        &reply,
+        more,
+    )
 }
 
-/// The answer to a source: the line of the reply, in this room, and this text after it if there is memory for that. The
-/// note of a refusal is the place in the source and the reason, which its line of JSON has in place of a note; that
+/// The answer to a source: the line of the reply, in these rooms, and this text after it if there is memory for that.
+/// The note of a refusal is the place in the source and the reason, which its line of JSON has in place of a note; that
 /// alone needs memory.
 pub fn reply_answer<A: Allocator + Copy>(
     alloc: A,
-    room: Vec<u8, A>,
+    rooms: Rooms<A>,
     settings: &Settings,
     source: SourceText<'_>,
     view: View,
     reply: &Reply,
     more: &[u8],
 ) -> Result<Answer<A>, AllocError>
-    requires empty { room.items ≡ [] }
-    requires fits { vec_len room + 96 ≤ vec_capacity room }
-    ensures answers { IfOk result (λ answer. AnswersReply view reply.now more.now answer
-        ⊎ AnswersReply view reply.now [] answer) }
+    requires empty { rooms.line.items ≡ [] }
+    requires fits { vec_len rooms.line + 96 ≤ vec_capacity rooms.line }
+    ensures answers { IfOk result (λ answer. AnswersReply view rooms.placed.items reply.now more.now answer
+        ⊎ AnswersReply view rooms.placed.items reply.now [] answer) }
     ensures memory { OnErr result (IsRefused reply.now) }
 {
     match view {
-        View::Plain => Ok(told_answer(alloc, room, settings, source, reply, more)),
-        View::Table => Ok(told_answer(alloc, room, settings, source, reply, more)),
-        View::Json => json_answer(alloc, room, settings, source, reply, more),
+        View::Plain => Ok(told_answer(alloc, rooms, settings, source, reply, more)),
+        View::Table => Ok(told_answer(alloc, rooms, settings, source, reply, more)),
+        View::Json => json_answer(alloc, rooms, settings, source, reply, more),
     }
 }
 
 /// The same in the line for programs, with a note of a refusal if there is memory for that.
 fn told_answer<A: Allocator + Copy>(
     alloc: A,
-    mut room: Vec<u8, A>,
+    rooms: Rooms<A>,
     settings: &Settings,
     source: SourceText<'_>,
     reply: &Reply,
     more: &[u8],
 ) -> Answer<A>
-    requires empty { room.items ≡ [] }
-    requires fits { vec_len room + 96 ≤ vec_capacity room }
-    ensures { AnswersReply View.Plain reply.now more.now result ⊎ AnswersReply View.Plain reply.now [] result }
+    requires empty { rooms.line.items ≡ [] }
+    requires fits { vec_len rooms.line + 96 ≤ vec_capacity rooms.line }
+    ensures { AnswersReply View.Plain rooms.placed.items reply.now more.now result
+        ⊎ AnswersReply View.Plain rooms.placed.items reply.now [] result }
 {
+    let mut room = rooms.line;
     line_of(reply).append_to(&mut room);
     let _ = room.extend_from_slice(more);
     Answer {
@@ -175,42 +196,38 @@ fn told_answer<A: Allocator + Copy>(
 /// The same as lines of JSON.
 fn json_answer<A: Allocator + Copy>(
     alloc: A,
-    room: Vec<u8, A>,
+    rooms: Rooms<A>,
     settings: &Settings,
     source: SourceText<'_>,
     reply: &Reply,
     more: &[u8],
 ) -> Result<Answer<A>, AllocError>
-    requires empty { room.items ≡ [] }
-    requires fits { vec_len room + 96 ≤ vec_capacity room }
-    ensures answers { IfOk result (λ answer. AnswersReply View.Json reply.now more.now answer
-        ⊎ AnswersReply View.Json reply.now [] answer) }
+    requires empty { rooms.line.items ≡ [] }
+    requires fits { vec_len rooms.line + 96 ≤ vec_capacity rooms.line }
+    ensures answers { IfOk result (λ answer. AnswersReply View.Json rooms.placed.items reply.now more.now answer
+        ⊎ AnswersReply View.Json rooms.placed.items reply.now [] answer) }
     ensures memory { OnErr result (IsRefused reply.now) }
 {
     match *reply {
         Reply::Refused(fault) => refused_answer(alloc, settings, source, fault),
-        _ => Ok(line_answer(alloc, room, reply, more)),
+        _ => Ok(line_answer(alloc, rooms, reply, more)),
     }
 }
 
-/// The line of JSON of a reply, in this room, and this text after it if there is memory for that.
-fn line_answer<A: Allocator>(
-    alloc: A,
-    mut room: Vec<u8, A>,
-    reply: &Reply,
-    more: &[u8],
-) -> Answer<A>
-    requires empty { room.items ≡ [] }
-    requires fits { vec_len room + 96 ≤ vec_capacity room }
+/// The line of JSON of a reply, in these rooms, and this text after it if there is memory for that.
+fn line_answer<A: Allocator>(alloc: A, rooms: Rooms<A>, reply: &Reply, more: &[u8]) -> Answer<A>
+    requires empty { rooms.line.items ≡ [] }
+    requires fits { vec_len rooms.line + 96 ≤ vec_capacity rooms.line }
     ensures ends { result.status ≡ reply_status reply.now }
-    ensures text { result.text ≡ json_line reply.now ++ more.now ⊎ result.text ≡ json_line reply.now ++ [] }
+    ensures text { result.text ≡ json_line rooms.placed.items reply.now ++ more.now
+        ⊎ result.text ≡ json_line rooms.placed.items reply.now ++ [] }
     ensures note { result.note ≡ [] }
 {
-    json_line(reply).append_to(&mut room);
-    let _ = room.extend_from_slice(more);
+    let mut text = json_line(rooms, reply);
+    let _ = text.extend_from_slice(more);
     Answer {
         status: status_of(reply),
-        text: room,
+        text,
         note: Vec::new(alloc),
     }
 }
@@ -222,7 +239,7 @@ fn refused_answer<A: Allocator + Copy>(
     source: SourceText<'_>,
     fault: AsmFault,
 ) -> Result<Answer<A>, AllocError>
-    ensures { IfOk result (AnswersReply View.Json (Reply.Refused fault) []) }
+    ensures { (placed : List ℕ) → IfOk result (AnswersReply View.Json placed (Reply.Refused fault) []) }
 {
     let refused = RefusedSource {
         path: source.name,

@@ -1,13 +1,13 @@
 //! The command `try`: what a submission would be answered.
 
-ghost use Rattle.std.specs.Prelude.{◌≡◌, false, IfOk};
-ghost use Rattle.{koth_commands.specs.Streams.{From, is_input}, koth_hills.specs.{Hills.AnswersSource, Trials.{IsTrialText, SaysTrial, Tried, trial_view}}};
+ghost use Rattle.std.specs.Prelude.{◌≡◌, false, IfOk, option_copied};
+ghost use Rattle.{koth_commands.specs.Streams.{From, is_input}, koth_hills.specs.Trials.{AnswersTrial, IsTrialText, SaysTrial, Tried, trial_view}};
 
-use crate::json::judged_lines;
-use crate::submit::{REPLY_LINE, SourceText, reply_answer};
+use crate::json::{judged_lines, line_for};
+use crate::submit::{REPLY_LINE, Rooms, SourceText, reply_answer};
 use hill_store::{Reply, Store};
 use koth_commands::trouble::Trouble;
-use koth_commands::{Answer, open_source, text_from};
+use koth_commands::{Answer, defined_text, open_source, text_from};
 use koth_files::look_hill;
 use koth_hill::{Hill, Verdict};
 use koth_views::{challenged_view, fallen_view};
@@ -17,22 +17,24 @@ use std::alloc::{AllocError, Allocator};
 use std::io::Read;
 use std::rt::Files;
 
-/// Answers what a submission of a source to the hill in a file would be answered, and for people, or as lines of JSON,
-/// its matches with all on the hill. Nothing is submitted: the hill is looked at before the source is read, its file is
+/// Answers what a submission of a source, with a definition if one is given, to the hill in a file would be answered,
+/// and for people, or as lines of JSON, its matches with all on the hill. Nothing is submitted: the hill is looked at before the source is read, its file is
 /// only read, and its lock is not taken.
 pub fn perform_try<'s, R: Files, A: Allocator + Copy, I: Read>(
     rt: &R,
     alloc: A,
     hill: &'s str,
     source: Source<'s>,
+    definition: Option<&'s str>,
     view: View,
     input: &mut I,
 ) -> Result<Answer<A>, Trouble<'s>>
-    ensures { From (is_input source.entry) (λ i j. AnswersSource (SaysTrial view) i j result) (I.remaining input.old)
-        (I.remaining input.new) }
+    ensures { From (is_input source.entry)
+        (λ i j. AnswersTrial (option_copied definition.entry) (SaysTrial view) i j result)
+        (I.remaining input.old) (I.remaining input.new) }
 {
     match look_hill(rt, alloc, hill) {
-        Ok(mut store) => try_read(rt, alloc, &mut store, source, view, input),
+        Ok(mut store) => try_read(rt, alloc, &mut store, source, definition, view, input),
         Err(trouble) => Err(trouble),
     }
 }
@@ -44,17 +46,19 @@ fn try_read<'s, R: Files, D: Device, A: Allocator + Copy, I: Read>(
     alloc: A,
     store: &mut Store<D, A>,
     source: Source<'s>,
+    definition: Option<&'s str>,
     view: View,
     input: &mut I,
 ) -> Result<Answer<A>, Trouble<'s>>
     requires { store.old.reopen ≡ false }
-    ensures { From (is_input source.entry) (λ i j. AnswersSource (SaysTrial view) i j result) (I.remaining input.old)
-        (I.remaining input.new) }
+    ensures { From (is_input source.entry)
+        (λ i j. AnswersTrial (option_copied definition.entry) (SaysTrial view) i j result)
+        (I.remaining input.old) (I.remaining input.new) }
 {
     match source {
-        Source::Input(name) => try_text_from(alloc, store, name, view, input),
+        Source::Input(name) => try_text_from(alloc, store, name, definition, view, input),
         Source::File(path) => match open_source(rt, path) {
-            Ok(mut file) => try_text_from(alloc, store, path, view, &mut file),
+            Ok(mut file) => try_text_from(alloc, store, path, definition, view, &mut file),
             Err(trouble) => Err(trouble),
         },
     }
@@ -65,13 +69,19 @@ fn try_text_from<'s, D: Device, A: Allocator + Copy, I: Read>(
     alloc: A,
     store: &mut Store<D, A>,
     name: &'s str,
+    definition: Option<&'s str>,
     view: View,
     reader: &mut I,
 ) -> Result<Answer<A>, Trouble<'s>>
     requires { store.old.reopen ≡ false }
-    ensures { AnswersSource (SaysTrial view) (I.remaining reader.old) (I.remaining reader.new) result }
+    ensures { AnswersTrial (option_copied definition.entry) (SaysTrial view) (I.remaining reader.old)
+        (I.remaining reader.new) result }
 {
-    match text_from(alloc, name, reader) {
+    let source = match text_from(alloc, name, reader) {
+        Ok(source) => source,
+        Err(trouble) => return Err(trouble),
+    };
+    match defined_text(alloc, definition, source) {
         Ok(text) => {
             let source = SourceText {
                 name,
@@ -93,18 +103,22 @@ fn try_source<D: Device, A: Allocator + Copy>(
     ensures tried { IfOk result (Tried D.facts store.old source.entry.text.now view) }
     ensures unchanged { store.new ≡ store.old }
 {
-    let room = Vec::with_capacity(alloc, REPLY_LINE)?;
+    let line = Vec::with_capacity(alloc, REPLY_LINE)?;
     match store.try_source(source.text, None) {
         Some(Ok(judged)) => {
             let reply = Reply::judged(&judged);
+            let placed = line_for(alloc, view, store.hill(), &judged)?;
             let more = trial_text(alloc, store.hill(), view, &judged);
             let settings = store.hill().settings();
             let more = more.as_slice();
-            reply_answer(alloc, room, settings, source, view, &reply, more)
+            let rooms = Rooms { line, placed };
+            reply_answer(alloc, rooms, settings, source, view, &reply, more)
         }
         Some(Err(reply)) => {
+            let placed = Vec::new(alloc);
             let settings = store.hill().settings();
-            reply_answer(alloc, room, settings, source, view, &reply, b"")
+            let rooms = Rooms { line, placed };
+            reply_answer(alloc, rooms, settings, source, view, &reply, b"")
         }
         None => unreachable!(),
     }

@@ -137,6 +137,7 @@ abbrev pub Fits : Value → Type 0
 Fits (Value.text bytes) = Unit {0}
 Fits (Value.number n) = n < 2 ^ 64
 Fits (Value.truth b) = Unit {0}
+Fits Value.null = Unit {0}
 
 abbrev pub AllFit : List Field → Type 0
 AllFit [] = Unit {0}
@@ -146,6 +147,7 @@ abbrev token_of : Value → token.Token
 token_of (Value.text bytes) = token.string (mended bytes)
 token_of (Value.number n) = token.number (decimal n)
 token_of (Value.truth b) = token.boolean b
+token_of Value.null = token.null
 
 abbrev name_of : Field → List ℕ
 name_of f = mended (key_text f.0)
@@ -156,6 +158,7 @@ lex_value (Value.text bytes) rest fits ended = lex_string bytes rest
 lex_value (Value.number n) rest fits ended = lex-number (decimal n) rest (IsNumber-decimal n fits) ended
 lex_value (Value.truth true) rest fits ended = λ i. Lexeme.token (cond (ended i) (token.boolean true) token.bad) ∷ in_word-ended rest ended i
 lex_value (Value.truth false) rest fits ended = λ i. Lexeme.token (cond (ended i) (token.boolean false) token.bad) ∷ in_word-ended rest ended i
+lex_value Value.null rest fits ended = λ i. Lexeme.token (cond (ended i) token.null token.bad) ∷ in_word-ended rest ended i
 
 lex_field : (f : Field) (rest : List ℕ) → Fits f.1 → ends_word rest ≡ true
     → lex between (field_text f ++ rest) ≡ Lexeme.token (token.string (name_of f)) ∷ colon ∷ Lexeme.token (token_of f.1) ∷ lex between rest
@@ -205,6 +208,7 @@ unfolding punctuate
 place_value (Value.text bytes) ls none = ap (λ b. place_token Place.fresh (token.string (mended bytes)) b (λ next. punctuate next ls)) none
 place_value (Value.number n) ls none = refl
 place_value (Value.truth b) ls none = refl
+place_value Value.null ls none = refl
 
 punctuate_further : (fs : List Field) → punctuate after_value (field_lexemes fs) ≡ field_tokens fs
 unfolding punctuate
@@ -225,6 +229,7 @@ abbrev pub json_value : Value → json.Json
 json_value (Value.text bytes) = json.string (mended bytes)
 json_value (Value.number n) = json.number (decimal n)
 json_value (Value.truth b) = json.boolean b
+json_value Value.null = json.null
 
 abbrev pub members_of : List Field → json.Members
 members_of [] = json.no_members
@@ -235,6 +240,7 @@ unfolding json.value
 value_read d (Value.text bytes) ts = refl
 value_read d (Value.number n) ts = refl
 value_read d (Value.truth b) ts = refl
+value_read d Value.null ts = refl
 
 members_read : (n d : ℕ) (fs : List Field) → length fs < n → json.members (json.value (suc d)) n (field_tokens fs) ≡ Some (members_of fs, [])
 unfolding json.members
@@ -252,7 +258,7 @@ object_read : (fs : List Field) → json.value 128 (token.begin_object ∷ field
 unfolding json.value
 object_read fs = ap (json.parse_map json.object) (members_read (length (field_tokens fs)) 126 fs (long fs))
 
--- a line is the object of its fields: of strings, which are UTF-8, of numbers, and of true and false
+-- a line is the object of its fields: of strings, which are UTF-8, of numbers, and of true, false and null
 pub line-reads_back : (f : Field) (fs : List Field) → Fits f.1 → AllFit fs → json.document (object_line f fs) ≡ Some (json.object (members_of (f ∷ fs)))
 line-reads_back f fs fits fit =
     ap (λ ls. option_and_then (λ p. json.if_last p.0 p.1) (json.value 128 (punctuate Place.fresh ls))) (lex_object f fs fits fit)

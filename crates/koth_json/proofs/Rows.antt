@@ -1,7 +1,9 @@
 -- Small lines, computed. `json.loads` of Python gives these values of the texts on the right.
-use Rattle.std.proofs.Common.{◌≡◌, Some, None, [], ◌∷◌, ◌++◌, codes, refl}
+use Rattle.std.proofs.Common.{◌≡◌, ℕ, List, true, Option, Some, None, [], ◌∷◌, ◌++◌, codes, refl}
 use Rattle.std.specs.{Char.encode_utf8, Fmt.digits, Str.{chars, is_utf8}, Str.Lossy.utf8_valid_len}
-use Rattle.koth_json.specs.{Keys.key_text, Objects.{field_text, further_field}, Reply.{audit_line, fell_line, worn_line}, Strings.{mended, string_text}}
+use Rattle.{war_types.specs.{declared.settings.RawSettings.RawSettings, Warrior.warrior_parts}, koth_match.specs.declared.bout.Bout.Bout}
+use Rattle.koth_hill.specs.{declared.verdict.Verdict.Verdict, Hill.{Member, member_of}, Kept.{Kept, kept_of}}
+use Rattle.koth_json.specs.{Keys.key_text, Objects.{field_text, further_field}, Reply.{audit_line, fell_line, judged_line, worn_line}, Strings.{mended, string_text}}
 
 -- a quotation mark and a backslash; a tab, a line feed and the last control character; a letter of two bytes, and one of three, as they are;
 -- a byte that no text has; three bytes of a character of four, a replacement each, and what is after them; and nothing
@@ -32,3 +34,29 @@ untrue : audit_line (Some (record {
     ++ codes "\"fought_won\":1,\"fought_lost\":1,\"fought_tied\":0}\n"
 unfolding chars digits encode_utf8 field_text further_field is_utf8 key_text mended utf8_valid_len
 untrue = refl
+
+-- a hill of two. The first has 10 points, and the second 19
+abbrev settings : RawSettings
+settings =
+    record { core = 8000; cycles = 80000; processes = 8000; length = 100; distance = 100; rounds = 10; seed = 1; capacity = 2; read_limit = 8000; write_limit = 8000 }
+
+abbrev entered : ℕ → ℕ → List ℕ → Member
+entered entry age name = member_of entry age (warrior_parts [] 0 name (codes "koth"))
+
+abbrev two : Kept
+two =
+    kept_of settings 2 (entered 1 1 (codes "Imp") ∷ entered 2 0 (codes "Dwarf") ∷ [])
+    ([] ∷ (record { older_wins = 3; younger_wins = 6; ties = 1 } ∷ []) ∷ [])
+
+abbrev third : Option ℕ → Verdict
+third falls = record { entry = 3; stays = true; falls = falls; score = 22; rank = 1; bouts = [] }
+
+-- the points of who is pushed off are those of the table before it falls
+placed : (judged_line two (third (Some 1))
+    ≡ codes "{\"type\":\"placed\",\"entry\":3,\"rank\":1,\"points\":22,\"pushed_off\":1,\"pushed_off_name\":\"Imp\","
+    ++ codes "\"pushed_off_author\":\"koth\",\"pushed_off_points\":10}\n")
+    × (judged_line two (third None)
+    ≡ codes "{\"type\":\"placed\",\"entry\":3,\"rank\":1,\"points\":22,\"pushed_off\":null,\"pushed_off_name\":null,"
+    ++ codes "\"pushed_off_author\":null,\"pushed_off_points\":null}\n")
+unfolding chars digits encode_utf8 field_text further_field is_utf8 key_text mended utf8_valid_len
+placed = (refl, refl)

@@ -2,17 +2,19 @@
 use Rattle.std.specs.{Prelude.{ℕ, Bool, true, false, List, ◌++◌, map, codes, decimal}, List.flat_map}
 use Rattle.koth_json.specs.{declared.{key.Key.Key, object.Value.Value as Put}, Keys.key_text, Strings.string_text}
 
--- a string for these bytes, a number, or true or false
+-- a string for these bytes, a number, true or false, or null, where there is nothing
 pub data Value : Type 0 where
   text : List ℕ → Value
   number : ℕ → Value
   truth : Bool → Value
+  null : Value
 
 -- as the code puts it
 abbrev pub value_of : Put → Value
 value_of (Put.Text bytes) = text bytes.now
 value_of (Put.Number n) = number n
 value_of (Put.Truth b) = truth b
+value_of Put.Null = null
 
 -- its name and its value
 abbrev pub Field : Type 0
@@ -29,6 +31,7 @@ abbrev pub value_text : Value → List ℕ
 value_text (text bytes) = string_text bytes
 value_text (number n) = decimal n
 value_text (truth b) = truth_text b
+value_text null = codes "null"
 
 unfoldable pub field_text : Field → List ℕ
 field_text field = string_text (key_text field.0) ++ (codes ":" ++ value_text field.1)

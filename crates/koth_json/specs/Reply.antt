@@ -1,6 +1,7 @@
 -- The lines of `submit`, `try` and `audit`.
-use Rattle.std.specs.Prelude.{ℕ, true, false, List, [], ◌∷◌, ◌++◌, Option, None, Some, codes}
-use Rattle.{koth_match.specs.declared.bout.Bout.Bout, koth_hill.specs.declared.untrue.Untrue.Untrue}
+use Rattle.std.specs.Prelude.{ℕ, ◌==◌, true, false, if◌then◌else◌, List, [], ◌∷◌, ◌++◌, Option, None, Some, codes}
+use Rattle.{koth_match.specs.declared.bout.Bout.Bout, koth_hill.specs.declared.{untrue.Untrue.Untrue, verdict.Verdict.Verdict}}
+use Rattle.koth_hill.specs.{Kept.{Kept, table_kept}, Table.RowParts}
 use Rattle.koth_json.specs.{declared.key.Key.Key, Objects.{Field, Value, object_line, type_field}}
 
 -- a warrior that is on the hill now
@@ -8,6 +9,44 @@ abbrev pub placed_line : ℕ → ℕ → ℕ → List ℕ
 placed_line entry rank points =
     object_line (type_field (codes "placed"))
     ((Key.Entry, Value.number entry) ∷ (Key.Rank, Value.number rank) ∷ (Key.Points, Value.number points) ∷ [])
+
+-- the row of this entry, if it is in one of these
+abbrev pub row_of : List RowParts → ℕ → Option RowParts
+row_of [] entry = None
+row_of (row ∷ rows) entry = if row.entry == entry then Some row else row_of rows entry
+
+-- of the entry that falls, the row among these
+abbrev pub row_that_falls : List RowParts → Option ℕ → Option RowParts
+row_that_falls rows None = None
+row_that_falls rows (Some entry) = row_of rows entry
+
+-- who is pushed off by a warrior with this verdict, as the row of the hill's table before it falls, if anyone is
+abbrev pub pushed_off : Kept → Verdict → Option RowParts
+pushed_off k judged = row_that_falls (table_kept k) judged.falls
+
+-- who is pushed off: entry, name, author and points, or nothing
+abbrev pub pushed_fields : Option RowParts → List Field
+pushed_fields None =
+    (Key.PushedOff, Value.null) ∷ (Key.PushedOffName, Value.null) ∷ (Key.PushedOffAuthor, Value.null) ∷ (Key.PushedOffPoints, Value.null) ∷ []
+pushed_fields (Some row) =
+    (Key.PushedOff, Value.number row.entry)
+    ∷ (Key.PushedOffName, Value.text row.name)
+    ∷ (Key.PushedOffAuthor, Value.text row.author)
+    ∷ (Key.PushedOffPoints, Value.number row.score)
+    ∷ []
+
+-- a warrior that is on the hill now, and who was pushed off for it
+abbrev pub placed_over : Verdict → Option RowParts → List ℕ
+placed_over judged pushed =
+    object_line (type_field (codes "placed")) (
+    (Key.Entry, Value.number judged.entry)
+    ∷ (Key.Rank, Value.number judged.rank)
+    ∷ (Key.Points, Value.number judged.score)
+    ∷ pushed_fields pushed)
+
+-- the line of a warrior that is placed by this verdict on this hill
+abbrev pub judged_line : Kept → Verdict → List ℕ
+judged_line k judged = placed_over judged (pushed_off k judged)
 
 -- a warrior that fell at once
 abbrev pub fell_line : ℕ → ℕ → List ℕ

@@ -23,4 +23,4 @@ pub use contest::{Contender, Round, put_match, put_ranked, put_round, put_sum};
 pub use data::data_text;
 pub use finding::{Copied, Finding, Severity, put_finding, put_refused};
 pub use hill::{hill_text, put_bouts};
-pub use reply::{put_audit, put_fell, put_least, put_placed, put_standing, put_worn};
+pub use reply::{put_audit, put_fell, put_judged, put_least, put_placed, put_standing, put_worn};

@@ -15,6 +15,8 @@ pub(crate) enum Value<'v> {
     Text(&'v [u8]),
     Number(u64),
     Truth(bool),
+    /// There is nothing.
+    Null,
 }
 
 /// A field, by its name.
@@ -85,6 +87,7 @@ fn put_value<A: Allocator>(line: &mut Vec<u8, A>, value: Value<'_>) -> Result<()
         Value::Text(bytes) => put_string(line, bytes),
         Value::Number(number) => line.extend_from_slice(Buffer::new().format(number).as_bytes()),
         Value::Truth(truth) => line.extend_from_slice(truth_text(truth).as_bytes()),
+        Value::Null => line.extend_from_slice(b"null"),
     }
 }
 

@@ -1,7 +1,7 @@
 -- What the tables of commands and arguments stand for. For private contracts alone.
 use Rattle.std.specs.Prelude.{◌≡◌, false, List, [], ◌∷◌, codes, fold}
 use Rattle.clap.specs.{Words.{App, Rule, new_app, rule_of, with_rule, with_subcommand}, declared.builder.arg.Arg.Arg}
-use Rattle.koth_options.specs.{Commands.{asm_app, check_app, defaulted_rule, fight_app, file_rule, flag_rule, page_rule, source_or_input_rule, sources_rule, spare_rule, texts_rule, wants_subcommand, with_version}, Options.{lettered_rule, option_rule, ranged_rule, required_rule, text_rule, with_like, with_settings}}
+use Rattle.koth_options.specs.{Commands.{asm_app, check_app, defaulted_rule, fight_app, file_rule, flag_rule, page_rule, source_or_input_rule, sources_rule, spare_rule, spare_sources_rule, texts_rule, wants_subcommand, with_version}, Options.{lettered_rule, option_rule, ranged_rule, required_rule, text_rule, with_like, with_settings}}
 use Rattle.koth_options.specs.{declared.arguments.Argument.Argument, declared.building.Row.Row, declared.building.Takes.Takes}
 
 -- the rule of an argument
@@ -10,6 +10,7 @@ rule_at (Argument.File name help) = file_rule name.now
 rule_at (Argument.Spare name help) = spare_rule name.now
 rule_at Argument.SourceOrInput = source_or_input_rule
 rule_at (Argument.Sources name help) = sources_rule name.now
+rule_at (Argument.SpareSources name help) = spare_sources_rule name.now
 rule_at (Argument.Text name value help) = text_rule name.now
 rule_at (Argument.Texts name value help) = texts_rule name.now
 rule_at (Argument.Defaulted name value default help) = defaulted_rule name.now default.now

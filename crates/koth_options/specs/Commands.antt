@@ -27,6 +27,10 @@ spare_rule name = new_rule name
 abbrev pub sources_rule : Text → Rule
 sources_rule name = record (file_rule name) { action = Some ArgAction.Append }
 
+-- sources, of which there may be none
+abbrev pub spare_sources_rule : Text → Rule
+spare_sources_rule name = record (spare_rule name) { action = Some ArgAction.Append }
+
 -- a source that is the input if none is named
 abbrev pub source_or_input_rule : Rule
 source_or_input_rule = record (new_rule (codes "SOURCE")) { defaults = codes "-" ∷ [] }
@@ -60,6 +64,10 @@ with_flag app name = with_rule app (flag_rule name)
 abbrev pub with_name : App → App
 with_name app = with_rule app (text_rule (codes "name"))
 
+-- the same, and the option for another body of the `EQU` lines of a name
+abbrev pub with_define : App → App
+with_define app = with_rule (with_name app) (text_rule (codes "define"))
+
 -- the option for the format of the output
 abbrev pub with_format : App → App
 with_format app = with_rule app (text_rule (codes "format"))
@@ -73,15 +81,15 @@ abbrev pub with_to : App → App
 with_to app = with_ranged (with_rule app (text_rule (codes "to"))) (codes "timeout") 1 86400
 
 abbrev pub asm_app : App
-asm_app = with_like (with_name (with_rule (new_app (codes "asm")) source_or_input_rule))
+asm_app = with_like (with_flag (with_define (with_rule (new_app (codes "asm")) source_or_input_rule)) (codes "listing"))
 
 abbrev pub check_app : App
-check_app = with_like (with_rule (with_flag (with_format (with_name (with_rule (new_app (codes "check")) (sources_rule (codes "SOURCE")))))
+check_app = with_like (with_rule (with_flag (with_format (with_define (with_rule (new_app (codes "check")) (sources_rule (codes "SOURCE")))))
     (codes "warnings")) (text_rule (codes "deny")))
 
 abbrev pub fight_app : App
-fight_app = with_like (with_view (with_flag (with_flag (with_name (with_rule (with_file (new_app (codes "fight")) (codes "MINE"))
-    (sources_rule (codes "OTHER")))) (codes "both")) (codes "each")))
+fight_app = with_like (with_view (with_flag (with_flag (with_flag (with_define (with_rule (with_file (new_app (codes "fight")) (codes "MINE"))
+    (spare_sources_rule (codes "OTHER")))) (codes "both")) (codes "each")) (codes "many")))
 
 abbrev pub create_app : App
 create_app = with_like (with_flag (with_flag (with_file (new_app (codes "create")) (codes "FILE")) (codes "overwrite")) (codes "draw-seed"))
@@ -91,12 +99,13 @@ submit_app = with_like (with_view (with_name (with_flag (with_to (with_ranged (w
     (codes "wait") 1 3600)) (codes "pipe"))))
 
 abbrev pub show_app : App
-show_app = with_view (with_flag (with_flag (with_flag (with_to (with_spare (new_app (codes "show")) (codes "FILE"))) (codes "matches")) (codes "settings")) (codes "with-seed"))
+show_app = with_view (with_ranged (with_flag (with_flag (with_flag (with_to (with_spare (new_app (codes "show")) (codes "FILE"))) (codes "matches")) (codes "settings")) (codes "with-seed"))
+    (codes "entry") 1 4294967295)
 
 abbrev pub serve_app : App
-serve_app = with_settings (with_flag (with_flag (with_rule (with_rule (with_flag (with_rule (with_ranged (with_option (with_rule (with_option (with_ranged (with_ranged (with_rule (with_file (new_app (codes "serve"))
+serve_app = with_settings (with_flag (with_rule (with_flag (with_rule (with_rule (with_flag (with_rule (with_ranged (with_option (with_rule (with_option (with_ranged (with_ranged (with_rule (with_file (new_app (codes "serve"))
     (codes "FILE")) (required_rule (codes "port") 65535)) (codes "peers") 1 1024) (codes "peers-per-address") 1 1024) (codes "steps")) (text_rule (codes "listen"))) (codes "connections")) (codes "http") 0 65535)
-    (texts_rule (codes "host"))) (codes "replays")) (text_rule (codes "title"))) (text_rule (codes "peers-at"))) (codes "quiet")) (codes "create"))
+    (texts_rule (codes "host"))) (codes "replays")) (text_rule (codes "title"))) (text_rule (codes "peers-at"))) (codes "quiet")) (text_rule (codes "log-format"))) (codes "create"))
 
 abbrev pub session_app : App
 session_app = with_option (with_ranged (with_file (new_app (codes "session")) (codes "FILE")) (codes "wait") 1 3600) (codes "steps")
@@ -115,14 +124,14 @@ abbrev pub with_round : App → App
 with_round app = with_flag (with_flag (with_flag (with_ranged app (codes "round") 1 1000) (codes "lost")) (codes "won")) (codes "tied")
 
 abbrev pub replay_app : App
-replay_app = with_like (with_round (with_rule (with_name (with_file (with_file (new_app (codes "replay")) (codes "MINE")) (codes "OTHER"))) page_rule))
+replay_app = with_like (with_round (with_rule (with_define (with_file (with_file (new_app (codes "replay")) (codes "MINE")) (codes "OTHER"))) page_rule))
 
 abbrev pub trace_app : App
-trace_app = with_like (with_rule (with_ranged (with_round (with_name (with_file (with_file (new_app (codes "trace")) (codes "MINE")) (codes "OTHER"))))
+trace_app = with_like (with_rule (with_ranged (with_round (with_define (with_file (with_file (new_app (codes "trace")) (codes "MINE")) (codes "OTHER"))))
     (codes "last") 1 4294967295) (defaulted_rule (codes "format") (codes "text")))
 
 abbrev pub try_app : App
-try_app = with_view (with_name (with_file (with_file (new_app (codes "try")) (codes "FILE")) (codes "SOURCE")))
+try_app = with_view (with_define (with_file (with_file (new_app (codes "try")) (codes "FILE")) (codes "SOURCE")))
 
 abbrev pub copy_app : App
 copy_app = with_flag (with_file (with_file (new_app (codes "copy")) (codes "FILE")) (codes "NEW")) (codes "audit")
@@ -131,12 +140,16 @@ abbrev pub reseed_app : App
 reseed_app = with_option (with_file (with_file (new_app (codes "reseed")) (codes "FILE")) (codes "NEW")) (codes "seed")
 
 abbrev pub rank_app : App
-rank_app = with_like (with_view (with_flag (with_name (with_rule (new_app (codes "rank")) (sources_rule (codes "FOLDER")))) (codes "both")))
+rank_app = with_like (with_view (with_flag (with_rule (with_flag (with_flag (with_name (with_rule (new_app (codes "rank")) (sources_rule (codes "FOLDER")))) (codes "both"))
+    (codes "matches")) (text_rule (codes "part"))) (codes "join")))
+
+abbrev pub explain_app : App
+explain_app = with_spare (new_app (codes "explain")) (codes "KIND")
 
 -- the commands, in the order of the help
 abbrev pub koth_commands : List App
 koth_commands = asm_app ∷ check_app ∷ fight_app ∷ create_app ∷ submit_app ∷ show_app ∷ serve_app ∷ session_app ∷ audit_app
-    ∷ migrate_app ∷ page_app ∷ replay_app ∷ trace_app ∷ try_app ∷ copy_app ∷ reseed_app ∷ rank_app ∷ []
+    ∷ migrate_app ∷ page_app ∷ replay_app ∷ trace_app ∷ try_app ∷ copy_app ∷ reseed_app ∷ rank_app ∷ explain_app ∷ []
 
 -- the program: `koth`, and a command's name with its files and options
 unfoldable pub koth_app : App

@@ -1,7 +1,7 @@
 //! The files, options and flags of the commands, one by one.
 
 ghost use Rattle.std.specs.Prelude.{codes, pos};
-ghost use Rattle.koth_options.specs.{Arguments.{rule_at, IsArg}, Commands.{defaulted_rule, file_rule, flag_rule, page_rule, source_or_input_rule, sources_rule, spare_rule, texts_rule}, Options.{lettered_rule, ranged_rule, required_rule, text_rule}};
+ghost use Rattle.koth_options.specs.{Arguments.{rule_at, IsArg}, Commands.{defaulted_rule, file_rule, flag_rule, page_rule, source_or_input_rule, sources_rule, spare_rule, spare_sources_rule, texts_rule}, Options.{lettered_rule, ranged_rule, required_rule, text_rule}};
 
 use clap::builder::ValueParser;
 use clap::{Arg, ArgAction};
@@ -21,6 +21,8 @@ pub(crate) enum Argument {
     SourceOrInput,
     /// One source or more.
     Sources(&'static str, &'static str),
+    /// Sources, of which there may be none.
+    SpareSources(&'static str, &'static str),
     /// An option with a text, which help calls so.
     Text(&'static str, &'static str, &'static str),
     /// An option with a text, which may be given more than once.
@@ -51,6 +53,7 @@ impl Argument {
             Argument::Spare(name, help) => spare(heap, name, help),
             Argument::SourceOrInput => source_or_input(heap),
             Argument::Sources(name, help) => sources(heap, name, help),
+            Argument::SpareSources(name, help) => spare_sources(heap, name, help),
             Argument::Text(name, value, help) => text(heap, name, value, help),
             Argument::Texts(name, value, help) => texts(heap, name, value, help),
             Argument::Defaulted(name, value, default, help) => {
@@ -93,6 +96,13 @@ fn sources<'a>(heap: Global, name: &'a str, help: &'a str) -> Arg<'a>
     ensures { IsArg (sources_rule name.entry.now) result }
 {
     file(heap, name, help).action(ArgAction::Append)
+}
+
+/// Sources, of which there may be none.
+fn spare_sources<'a>(heap: Global, name: &'a str, help: &'a str) -> Arg<'a>
+    ensures { IsArg (spare_sources_rule name.entry.now) result }
+{
+    spare(heap, name, help).action(ArgAction::Append)
 }
 
 /// An option with a text.

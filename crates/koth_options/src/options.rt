@@ -36,7 +36,14 @@ pub(crate) use help;
 pub(crate) const NAME: Argument = Text(
     "name",
     "NAME",
-    "What messages call standard input, with - alone",
+    "What messages call standard input, if - is a source",
+);
+
+/// The option for another body of the `EQU` lines of a name.
+pub(crate) const DEFINE: Argument = Text(
+    "define",
+    "NAME=VALUE",
+    "Read each EQU line of NAME as if its body were VALUE",
 );
 
 /// The option for the format of the output, and the flags for how it is laid out.
@@ -95,7 +102,7 @@ pub(crate) const STEPS: Argument = Number(
 const LIKE: [Argument; 1] = [Text(
     "like",
     "FILE",
-    "Take the settings of the hill in this file, its seed too; options beside it stand in their place; not with --preset",
+    "Take the settings of the hill in this file, its seed too; further options replace them; not with --preset",
 )];
 
 /// The options for a preset, and for the settings of a match.
@@ -103,7 +110,7 @@ const MATCH: [Argument; 9] = [
     Text(
         "preset",
         "NAME",
-        "Settings of a known hill; options beside it stand in their place: 94nop, tiny or nano [default: 94nop]",
+        "Settings of a known hill; further options replace them: 94nop, tiny or nano [default: 94nop]",
     ),
     Lettered(
         "core",

@@ -2,7 +2,7 @@
 
 use crate::arguments::Argument::{self, Defaulted, File, Flag, Page, Ranged};
 use crate::building::{Row, Takes};
-use crate::options::{NAME, help};
+use crate::options::{DEFINE, NAME, help};
 use war_types::range_of;
 
 /// An option with a number that is in the range of a setting.
@@ -37,6 +37,7 @@ pub(crate) const REPLAY: Row = Row {
         MINE,
         OTHER,
         NAME,
+        DEFINE,
         Page("File for the page; needed if standard output is a terminal"),
         ROUND,
         LOST,
@@ -54,6 +55,7 @@ pub(crate) const TRACE: Row = Row {
         MINE,
         OTHER,
         NAME,
+        DEFINE,
         ROUND,
         LOST,
         WON,

@@ -1,12 +1,13 @@
--- Every byte of a page is of ASCII, for `hill_page`.
-use Rattle.{std.proofs.Common.{◌≡◌, ℕ, true, cond, eqb, ltb, List, [], ◌∷◌, ◌++◌, codes, decimal, Option, None, Some, refl}, std.specs.List.{enumerate_from, flat_map, list_all}, std.proofs.lemmas.Bool.cond_both}
+-- Every byte of a page is of ASCII, for `hill_page` and `ranking_page`.
+use Rattle.{std.proofs.Common.{◌≡◌, ℕ, Bool, true, cond, eqb, ltb, List, [], ◌∷◌, ◌++◌, codes, decimal, Option, None, Some, refl}, std.specs.List.{enumerate_from, flat_map, list_all}, std.proofs.lemmas.Bool.cond_both}
 use Rattle.{std.proofs.lemmas.List.Folds.list_all-append, war_types.specs.declared.settings.RawSettings.RawSettings, koth_hill.specs.{Kept.{Kept, table_kept}, Table.RowParts}}
 use Rattle.{koth_text.specs.{Characters.is_page_byte, declared.tally.Tally.Tally}, koth_text.proofs.Ascii.{Ascii, ascii_decimal, ascii_escaped, both, each}}
-use Rattle.{koth_views.specs.Tally.{against_all, between}, koth_page.specs.{declared.links.Links.Links, declared.parts.TheConstants.END, Cells.{name_cell, name_heading, number_cell}}}
+use Rattle.{koth_views.specs.Tally.between, koth_page.specs.{declared.links.Links.Links, declared.parts.TheConstants.END, Cells.{name_cell, name_heading, number_cell, number_cells}}}
 use Rattle.koth_page.specs.Matches.{cell_start, fought_cell, fought_text, label_text, link_start, match_cell, matches_heading, matches_row, matches_rows, matches_text, pair_text, rank_heading, rounds_text, row_heading, sides_text}
 use Rattle.koth_page.specs.{Sign.AddressParts, Top.{age_text, facts_text, head_text, king_text, lines_text, lowest_with, named_text, points_text, points_word, submit_text, top_text}}
-use Rattle.koth_page.specs.{Page.{hill_page, page_of, tables_text}, Settings.{limit_text, limits_text, machine_text, rules_text, setting_text, settings_text}, Shade.{all_rounds, quarter, shade}, Sign.SignParts}
-use Rattle.koth_page.specs.Standing.{ranked_text, standing_heading, standing_row, standing_rows, standing_text}
+use Rattle.koth_page.specs.{Entered.entered_rows, Page.{hill_page, hill_tables, page_of}, Ranked.{OriginParts, RankedParts}, Ranking.{note_of, ranking_page}, Shade.{all_rounds, quarter, shade}, Sign.SignParts, Tables.tables_text}
+use Rattle.koth_page.specs.Settings.{hill_line, limit_text, limits_text, machine_text, orders_text, ranking_line, ranking_settings, rules_text, setting_text, settings_text}
+use Rattle.koth_page.specs.Standing.{cells_for, headings_for, origin_cells, origin_headings, ranked_text, standing_heading, standing_row, standing_rows, standing_start, standing_text}
 
 ascii_number_cell : (n : ℕ) → Ascii (number_cell n)
 unfolding number_cell
@@ -34,8 +35,15 @@ ascii_limits s =
     (ascii_limit write s.write_limit s.core refl)
 
 ascii_settings : (s : RawSettings) → Ascii (settings_text s)
-unfolding machine_text rules_text setting_text settings_text
+unfolding hill_line machine_text rules_text setting_text settings_text
 ascii_settings s = simp (list_all-append, ascii_decimal, ascii_limits)
+
+ascii_orders : (both_orders : Bool) → Ascii (orders_text both_orders)
+ascii_orders both_orders = cond_both both_orders (codes " in both orders") [] Ascii (λ _. refl) (λ _. refl)
+
+ascii_ranking_settings : (s : RawSettings) (both_orders : Bool) → Ascii (ranking_settings s both_orders)
+unfolding machine_text ranking_line ranking_settings rules_text setting_text
+ascii_ranking_settings s both_orders = simp (list_all-append, ascii_decimal, ascii_limits, ascii_orders)
 
 -- ---- the top
 
@@ -74,25 +82,47 @@ ascii_top sign rows =
 
 -- ---- the tables
 
-ascii_standing_row : (rank : ℕ) (row : RowParts) (rounds : Tally) → Ascii (standing_row rank row rounds)
+ascii_headings_for : (origin : OriginParts) → Ascii (headings_for origin)
+ascii_headings_for (OriginParts.Entered age) = refl
+ascii_headings_for (OriginParts.File file) = refl
+
+ascii_origin_headings : (rows : List RankedParts) → Ascii (origin_headings rows)
+ascii_origin_headings [] = refl
+ascii_origin_headings (row ∷ rows) = ascii_headings_for row.origin
+
+ascii_number_cells : (ns : List ℕ) → Ascii (number_cells ns)
+ascii_number_cells ns = each is_page_byte number_cell ascii_number_cell ns
+
+ascii_cells_for : (number : ℕ) (origin : OriginParts) → Ascii (cells_for number origin)
+ascii_cells_for number (OriginParts.Entered age) = ascii_number_cells (age ∷ number ∷ [])
+ascii_cells_for number (OriginParts.File file) = ascii_name_cell file
+
+ascii_origin : (row : RankedParts) → Ascii (origin_cells row)
+ascii_origin row = ascii_cells_for row.number row.origin
+
+ascii_standing_heading : (rows : List RankedParts) → Ascii (standing_heading rows)
+unfolding standing_heading standing_start
+ascii_standing_heading rows = simp (list_all-append, ascii_origin_headings)
+
+ascii_standing_row : (rank : ℕ) (row : RankedParts) → Ascii (standing_row rank row)
 unfolding ranked_text standing_row
-ascii_standing_row rank row rounds = simp (list_all-append, ascii_number_cell, ascii_name_cell, ascii_name_heading)
+ascii_standing_row rank row = simp (list_all-append, ascii_number_cell, ascii_name_cell, ascii_name_heading, ascii_origin)
 
-ascii_standing : (k : Kept) (rows : List RowParts) → Ascii (standing_text k rows)
-unfolding standing_heading standing_text
-ascii_standing k rows =
-    let f = λ (p : ℕ × RowParts). standing_row p.0 p.1 (against_all k p.1.entry) in
-    let shown : Ascii (standing_rows k rows) = each is_page_byte f (λ p. ascii_standing_row p.0 p.1 (against_all k p.1.entry)) (enumerate_from 1 rows) in
-    simp (list_all-append, shown)
+ascii_standing : (rows : List RankedParts) → Ascii (standing_text rows)
+unfolding standing_text
+ascii_standing rows =
+    let f = λ (p : ℕ × RankedParts). standing_row p.0 p.1 in
+    let shown : Ascii (standing_rows rows) = each is_page_byte f (λ p. ascii_standing_row p.0 p.1) (enumerate_from 1 rows) in
+    simp (list_all-append, ascii_standing_heading, shown)
 
-ascii_rank_heading : (rank : ℕ) (row : RowParts) → Ascii (rank_heading rank row)
+ascii_rank_heading : (rank : ℕ) (row : RankedParts) → Ascii (rank_heading rank row)
 unfolding rank_heading
 ascii_rank_heading rank row = simp (list_all-append, ascii_decimal, ascii_escaped)
 
-ascii_matches_heading : (rows : List RowParts) → Ascii (matches_heading rows)
+ascii_matches_heading : (rows : List RankedParts) → Ascii (matches_heading rows)
 unfolding matches_heading
 ascii_matches_heading rows =
-    let f = λ (p : ℕ × RowParts). rank_heading p.0 p.1 in
+    let f = λ (p : ℕ × RankedParts). rank_heading p.0 p.1 in
     let ranks : Ascii (flat_map f (enumerate_from 1 rows)) = each is_page_byte f (λ p. ascii_rank_heading p.0 p.1) (enumerate_from 1 rows) in
     simp (list_all-append, ranks)
 
@@ -108,44 +138,61 @@ ascii_shade r =
     cond_both (ltb r.lost r.won) won (cond (ltb r.won r.lost) lost (codes "e")) Ascii (λ _. ascii_lead (codes "w") (quarter r.won r.lost (all_rounds r)) refl)
     (λ _. cond_both (ltb r.won r.lost) lost (codes "e") Ascii (λ _. ascii_lead (codes "l") (quarter r.lost r.won (all_rounds r)) refl) (λ _. refl))
 
-ascii_fought_cell : (links : Links) (rounds : Tally) (row other : RowParts) → Ascii (fought_cell links rounds row other)
+ascii_fought_cell : (links : Links) (rounds : Tally) (row other : RankedParts) → Ascii (fought_cell links rounds row other)
 unfolding cell_start fought_cell fought_text label_text link_start pair_text rounds_text sides_text
 ascii_fought_cell Links.None rounds row other = simp (list_all-append, ascii_decimal, ascii_escaped, ascii_shade)
 ascii_fought_cell Links.Rounds rounds row other = simp (list_all-append, ascii_decimal, ascii_escaped, ascii_shade)
 
-ascii_match_cell : (k : Kept) (links : Links) (row other : RowParts) → Ascii (match_cell k links row other)
-ascii_match_cell k links row other =
-    let rounds = between k row.entry other.entry in
-    cond_both (eqb row.entry other.entry) (codes "<td class=\"self\">&middot;</td>") (fought_cell links rounds row other) Ascii (λ _. refl) (λ _. ascii_fought_cell links rounds row other)
+ascii_match_cell : (results : ℕ → ℕ → Tally) (links : Links) (row other : RankedParts) → Ascii (match_cell results links row other)
+ascii_match_cell results links row other =
+    let rounds = results row.number other.number in
+    cond_both (eqb row.number other.number) (codes "<td class=\"self\">&middot;</td>") (fought_cell links rounds row other) Ascii (λ _. refl) (λ _. ascii_fought_cell links rounds row other)
 
-ascii_row_heading : (row : RowParts) → Ascii (row_heading row)
+ascii_row_heading : (row : RankedParts) → Ascii (row_heading row)
 unfolding row_heading
 ascii_row_heading row = simp (list_all-append, ascii_decimal, ascii_escaped)
 
-ascii_matches_row : (k : Kept) (links : Links) (rows : List RowParts) (rank : ℕ) (row : RowParts) → Ascii (matches_row k links rows rank row)
+ascii_matches_row : (results : ℕ → ℕ → Tally) (links : Links) (rows : List RankedParts) (rank : ℕ) (row : RankedParts) → Ascii (matches_row results links rows rank row)
 unfolding matches_row
-ascii_matches_row k links rows rank row =
-    let cells : Ascii (flat_map (match_cell k links row) rows) = each is_page_byte (match_cell k links row) (ascii_match_cell k links row) rows in
+ascii_matches_row results links rows rank row =
+    let cells : Ascii (flat_map (match_cell results links row) rows) = each is_page_byte (match_cell results links row) (ascii_match_cell results links row) rows in
     simp (list_all-append, ascii_number_cell, ascii_row_heading, cells)
 
-ascii_matches : (k : Kept) (links : Links) (rows : List RowParts) → Ascii (matches_text k links rows)
+ascii_matches : (results : ℕ → ℕ → Tally) (links : Links) (rows : List RankedParts) → Ascii (matches_text results links rows)
 unfolding matches_text
-ascii_matches k links rows =
-    let f = λ (p : ℕ × RowParts). matches_row k links rows p.0 p.1 in
-    let shown : Ascii (matches_rows k links rows rows) = each is_page_byte f (λ p. ascii_matches_row k links rows p.0 p.1) (enumerate_from 1 rows) in
+ascii_matches results links rows =
+    let f = λ (p : ℕ × RankedParts). matches_row results links rows p.0 p.1 in
+    let shown : Ascii (matches_rows results links rows rows) = each is_page_byte f (λ p. ascii_matches_row results links rows p.0 p.1) (enumerate_from 1 rows) in
     simp (list_all-append, ascii_matches_heading, shown)
 
-ascii_tables : (k : Kept) (links : Links) (rows : List RowParts) → Ascii (tables_text k links rows)
-ascii_tables k links [] = refl
-ascii_tables k links (row ∷ rows) =
+ascii_tables : (results : ℕ → ℕ → Tally) (links : Links) (rows : List RankedParts) → Ascii (tables_text results links rows)
+ascii_tables results links [] = refl
+ascii_tables results links (row ∷ rows) =
     let all = row ∷ rows in
-    both is_page_byte (standing_text k all) (matches_text k links all) (ascii_standing k all) (ascii_matches k links all)
+    both is_page_byte (standing_text all) (matches_text results links all) (ascii_standing all) (ascii_matches results links all)
 
 pub ascii : (k : Kept) (sign : SignParts) (links : Links) → list_all is_page_byte (hill_page k sign links) ≡ true
 unfolding page_of
 ascii k sign links =
     let top = top_text sign (table_kept k) in
     let start = top ++ settings_text k.settings in
-    let tables = tables_text k links (table_kept k) in
+    let tables = hill_tables k links (table_kept k) in
     both is_page_byte (start ++ tables) END.now
-    (both is_page_byte start tables (both is_page_byte top (settings_text k.settings) (ascii_top sign (table_kept k)) (ascii_settings k.settings)) (ascii_tables k links (table_kept k))) refl
+    (both is_page_byte start tables (both is_page_byte top (settings_text k.settings) (ascii_top sign (table_kept k)) (ascii_settings k.settings))
+    (ascii_tables (between k) links (entered_rows k (table_kept k)))) refl
+
+ascii_note : (rows : List RankedParts) → Ascii (note_of rows)
+ascii_note [] = refl
+ascii_note (row ∷ rows) = refl
+
+pub ascii_ranking : (title : List ℕ) (s : RawSettings) (both_orders : Bool) (results : ℕ → ℕ → Tally) (rows : List RankedParts)
+    → list_all is_page_byte (ranking_page title s both_orders results rows) ≡ true
+unfolding ranking_page
+ascii_ranking title s both_orders results rows =
+    let top = head_text title ++ note_of rows in
+    let start = top ++ ranking_settings s both_orders in
+    let tables = tables_text results Links.None rows in
+    both is_page_byte (start ++ tables) END.now
+    (both is_page_byte start tables
+    (both is_page_byte top (ranking_settings s both_orders) (both is_page_byte (head_text title) (note_of rows) (ascii_head title) (ascii_note rows)) (ascii_ranking_settings s both_orders))
+    (ascii_tables results Links.None rows)) refl

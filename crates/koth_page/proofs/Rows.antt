@@ -1,11 +1,11 @@
 -- Parts of the pages of small hills, computed.
-use Rattle.{std.proofs.Common.{◌≡◌, ℕ, List, [], ◌∷◌, ◌++◌, codes, Some, None, refl}, std.specs.{Char.encode_utf8, Fmt.digits, Str.{chars, is_utf8}}}
+use Rattle.{std.proofs.Common.{◌≡◌, ℕ, true, List, [], ◌∷◌, ◌++◌, codes, Some, None, refl}, std.specs.{Prelude.{nat_lt, if◌then◌else◌}, Char.encode_utf8, Fmt.digits, Str.{chars, is_utf8}}}
 use Rattle.{std.specs.Str.Lossy.{utf8_error_len, utf8_lossy, utf8_valid_len}, war_types.specs.{declared.settings.RawSettings.RawSettings, Warrior.warrior_parts}}
-use Rattle.{koth_match.specs.declared.bout.Bout.Bout, koth_hill.specs.{Hill.{Member, member_of}, Kept.{Kept, kept_of, table_kept}}, koth_text.specs.Escape.escaped}
-use Rattle.koth_page.specs.{declared.parts.TheConstants.{BODY_START, EMPTY, END, HEAD, MATCHES_START, RULES, STANDING_START, TABLE_END}, Cells.{name_cell, name_heading, number_cell}}
+use Rattle.{koth_match.specs.declared.bout.Bout.Bout, koth_hill.specs.{Hill.{Member, member_of}, Kept.{Kept, kept_of, table_kept}}, koth_text.specs.{Escape.escaped, declared.tally.Tally.Tally}, koth_views.specs.Tally.between}
+use Rattle.koth_page.specs.{declared.parts.TheConstants.{BODY_START, EMPTY, END, HEAD, MATCHES_START, MEANINGS, RANKING_RULES, RULES, STANDING_START, TABLE_END}, Cells.{name_cell, name_heading, number_cell}}
 use Rattle.koth_page.specs.{Matches.{cell_start, fought_cell, fought_text, label_text, link_start, matches_heading, matches_row, matches_text, pair_text, rank_heading, rounds_text, row_heading, sides_text}, Page.{hill_page, page_of}}
-use Rattle.koth_page.specs.{Settings.{limit_text, limits_text, machine_text, rules_text, setting_text, settings_text}, Shade.shade, Sign.{AddressParts, SignParts}, declared.links.Links.Links}
-use Rattle.koth_page.specs.{Standing.{ranked_text, standing_heading, standing_row, standing_text}, Top.{age_text, facts_text, head_text, king_text, lines_text, named_text, points_text, submit_text, top_text}}
+use Rattle.koth_page.specs.{Entered.entered_rows, Ranked.{OriginParts, RankedParts}, Ranking.ranking_page, Settings.{hill_line, limit_text, limits_text, machine_text, ranking_line, ranking_settings, rules_text, setting_text, settings_text}, Shade.shade, Sign.{AddressParts, SignParts}, declared.links.Links.Links}
+use Rattle.koth_page.specs.{Standing.{ranked_text, standing_heading, standing_row, standing_start, standing_text}, Top.{age_text, facts_text, head_text, king_text, lines_text, named_text, points_text, submit_text, top_text}}
 
 abbrev settings : RawSettings
 settings =
@@ -38,8 +38,9 @@ page_of_none : hill_page none without_address Links.None
     ++ EMPTY.now
     ++ codes "<details>\n<summary>Settings: core 8000, cycles 80000, processes 8000, length 100, distance 100, rounds 10, places 20, write limit 4000"
     ++ RULES.now
+    ++ MEANINGS.now
     ++ END.now
-unfolding chars digits encode_utf8 escaped head_text is_utf8 king_text limit_text limits_text machine_text page_of rules_text setting_text settings_text submit_text top_text utf8_error_len utf8_lossy utf8_valid_len
+unfolding chars digits encode_utf8 escaped head_text hill_line is_utf8 king_text limit_text limits_text machine_text page_of rules_text setting_text settings_text submit_text top_text utf8_error_len utf8_lossy utf8_valid_len
 page_of_none = refl
 
 -- the first by rank is the king, the lowest is the least of all, and the address is in both lines
@@ -54,16 +55,17 @@ top_of_two : top_text (record without_address { address = Some address }) (table
 unfolding age_text chars digits encode_utf8 escaped facts_text head_text is_utf8 king_text lines_text named_text points_text submit_text top_text utf8_error_len utf8_lossy utf8_valid_len
 top_of_two = refl
 
-table_of_two : standing_text two (table_kept two)
+table_of_two : standing_text (entered_rows two (table_kept two))
     ≡ STANDING_START.now
-    ++ standing_heading
+    ++ standing_start
+    ++ codes "<th scope=\"col\">age</th><th scope=\"col\">entry</th></tr></thead>\n"
     ++ codes "<tr><td>1</td><th scope=\"row\" class=\"name\">&lt;Scanner&gt;</th><td class=\"name\">A. &amp; B.</td><td>25</td><td>8</td><td>1</td><td>1</td><td>0</td><td>3</td></tr>\n"
     ++ codes "<tr><td>2</td><th scope=\"row\" class=\"name\">Imp</th><td class=\"name\">A. &amp; B.</td><td>4</td><td>1</td><td>8</td><td>1</td><td>1</td><td>1</td></tr>\n"
     ++ TABLE_END.now
-unfolding chars digits encode_utf8 escaped is_utf8 name_cell name_heading number_cell ranked_text standing_heading standing_row standing_text utf8_error_len utf8_lossy utf8_valid_len
+unfolding chars digits encode_utf8 escaped is_utf8 name_cell name_heading number_cell ranked_text standing_heading standing_row standing_start standing_text utf8_error_len utf8_lossy utf8_valid_len
 table_of_two = refl
 
-matches_of_two : matches_text two Links.None (table_kept two)
+matches_of_two : matches_text (between two) Links.None (entered_rows two (table_kept two))
     ≡ MATCHES_START.now
     ++ codes "<thead><tr><th scope=\"col\">rank</th><th scope=\"col\" class=\"name\">warrior</th><th scope=\"col\" title=\"&lt;Scanner&gt;\">1</th><th scope=\"col\" title=\"Imp\">2</th></tr></thead>\n"
     ++ codes "<tr><td>1</td><th scope=\"row\" class=\"name\" id=\"w3\">&lt;Scanner&gt;</th><td class=\"self\">&middot;</td><td class=\"w3\" title=\"&lt;Scanner&gt; against Imp\">8-1</td></tr>\n"
@@ -73,7 +75,7 @@ unfolding cell_start chars digits encode_utf8 escaped fought_cell fought_text is
 matches_of_two = refl
 
 -- both cells lead to the first round of the match, by the older warrior's entry and the younger's
-rounds_of_two : matches_text two Links.Rounds (table_kept two)
+rounds_of_two : matches_text (between two) Links.Rounds (entered_rows two (table_kept two))
     ≡ MATCHES_START.now
     ++ codes "<thead><tr><th scope=\"col\">rank</th><th scope=\"col\" class=\"name\">warrior</th><th scope=\"col\" title=\"&lt;Scanner&gt;\">1</th><th scope=\"col\" title=\"Imp\">2</th></tr></thead>\n"
     ++ codes "<tr><td>1</td><th scope=\"row\" class=\"name\" id=\"w3\">&lt;Scanner&gt;</th><td class=\"self\">&middot;</td>"
@@ -83,6 +85,43 @@ rounds_of_two : matches_text two Links.Rounds (table_kept two)
     ++ TABLE_END.now
 unfolding cell_start chars digits encode_utf8 escaped fought_cell fought_text is_utf8 label_text link_start matches_heading matches_row matches_text number_cell pair_text rank_heading rounds_text row_heading shade sides_text utf8_error_len utf8_lossy utf8_valid_len
 rounds_of_two = refl
+
+-- two files by rank, the second read before the first: no match is linked, and nothing is said of places
+abbrev ranked : ℕ → List ℕ → ℕ → Tally → RankedParts
+ranked number name points rounds =
+    record { number = number; name = name; author = codes "A."; points = points; rounds = rounds; origin = OriginParts.File (name ++ codes ".red") }
+
+abbrev lead : Tally
+lead = record { won = 8; lost = 1; tied = 11 }
+
+abbrev behind : Tally
+behind = record { won = 1; lost = 8; tied = 11 }
+
+abbrev results : ℕ → ℕ → Tally
+results one other = if nat_lt other one then lead else behind
+
+ranking_of_two : ranking_page (codes "<>") settings true results (ranked 2 (codes "B") 35 lead ∷ ranked 1 (codes "&") 14 behind ∷ [])
+    ≡ HEAD.now
+    ++ codes "&lt;&gt;"
+    ++ BODY_START.now
+    ++ codes "&lt;&gt;</h1>\n"
+    ++ codes "<details>\n<summary>Settings: core 8000, cycles 80000, processes 8000, length 100, distance 100, rounds 10 in both orders, write limit 4000"
+    ++ RANKING_RULES.now
+    ++ MEANINGS.now
+    ++ STANDING_START.now
+    ++ codes "<thead><tr><th scope=\"col\">rank</th><th scope=\"col\" class=\"name\">warrior</th><th scope=\"col\" class=\"name\">author</th>"
+    ++ codes "<th scope=\"col\">points</th><th scope=\"col\">won</th><th scope=\"col\">lost</th><th scope=\"col\">tied</th><th scope=\"col\" class=\"name\">file</th></tr></thead>\n"
+    ++ codes "<tr><td>1</td><th scope=\"row\" class=\"name\">B</th><td class=\"name\">A.</td><td>35</td><td>8</td><td>1</td><td>11</td><td class=\"name\">B.red</td></tr>\n"
+    ++ codes "<tr><td>2</td><th scope=\"row\" class=\"name\">&amp;</th><td class=\"name\">A.</td><td>14</td><td>1</td><td>8</td><td>11</td><td class=\"name\">&amp;.red</td></tr>\n"
+    ++ TABLE_END.now
+    ++ MATCHES_START.now
+    ++ codes "<thead><tr><th scope=\"col\">rank</th><th scope=\"col\" class=\"name\">warrior</th><th scope=\"col\" title=\"B\">1</th><th scope=\"col\" title=\"&amp;\">2</th></tr></thead>\n"
+    ++ codes "<tr><td>1</td><th scope=\"row\" class=\"name\" id=\"w2\">B</th><td class=\"self\">&middot;</td><td class=\"w2\" title=\"B against &amp;\">8-1</td></tr>\n"
+    ++ codes "<tr><td>2</td><th scope=\"row\" class=\"name\" id=\"w1\">&amp;</th><td class=\"l2\" title=\"&amp; against B\">1-8</td><td class=\"self\">&middot;</td></tr>\n"
+    ++ TABLE_END.now
+    ++ END.now
+unfolding cell_start chars digits encode_utf8 escaped fought_cell fought_text head_text is_utf8 limit_text limits_text machine_text matches_heading matches_row matches_text name_cell name_heading number_cell pair_text rank_heading ranked_text ranking_line ranking_page ranking_settings rounds_text row_heading rules_text setting_text shade sides_text standing_heading standing_row standing_start standing_text utf8_error_len utf8_lossy utf8_valid_len
+ranking_of_two = refl
 
 -- a lead of one round of ten, of just over a quarter of them, and of all
 shades : (shade (record { won = 5; lost = 4; tied = 1 }) ≡ codes "w1") × (shade (record { won = 1; lost = 4; tied = 5 }) ≡ codes "l2")

@@ -6,12 +6,17 @@ pub mod Sign
 -- Numbers and names in the cells of a table, and how cells of matches are coloured.
 pub mod Cells
 pub mod Shade
+-- The rows of the tables, and those of a hill.
+pub mod Ranked
+pub mod Entered
 -- The title, the king, and how to submit.
 pub mod Top
--- The settings of a hill, its table, and its matches.
+-- The settings, the table, and the matches.
 pub mod Settings
 pub mod Standing
 pub mod Matches
--- The page, and what holds of every page.
+pub mod Tables
+-- The page of a hill and the one of a ranking, and what holds of every page.
 pub mod Page
+pub mod Ranking
 pub mod Laws

@@ -1,37 +1,38 @@
-//! The matches on a hill: who won, lost and tied how many rounds against whom.
+//! The matches of warriors: who won, lost and tied how many rounds against whom.
 
-ghost use Rattle.std.specs.{Prelude.{◌≡◌, ◌+◌, ◌<◌, ◌≤◌, ◌^◌, ◌++◌, length, codes, decimal, OnOk}, List.{enumerate_from, flat_map}};
-ghost use Rattle.koth_hill.specs.Rows.{row_parts, rows_parts};
+ghost use Rattle.std.specs.{Prelude.{◌≡◌, ◌+◌, ◌<◌, ◌^◌, ◌++◌, length, codes, decimal, OnOk}, List.{enumerate_from, flat_map}};
+ghost use Rattle.koth_page.specs.Ranked.{all_parts, ranked_parts};
 ghost use Rattle.koth_page.specs.Matches.{cell_start, fought_cell, fought_text, label_text, link_start, match_cell, matches_heading, matches_row, matches_rows, matches_text, pair_text, rank_heading, rounds_text, row_heading, sides_text};
 
 use crate::cells::number_cell;
 use crate::links::Links;
 use crate::parts::{MATCHES_START, TABLE_END};
+use crate::ranked::Ranked;
+use crate::results::Results;
 use crate::shade::put_shade;
-use koth_hill::{Hill, Row};
 use koth_text::Piece::{Escaped, Number, Text};
 use koth_text::{Line, Tally, put_all, put_escaped, put_line, put_number};
-use koth_views::between;
 use std::alloc::{AllocError, Allocator};
 
 /// Puts the matches of these rows: a row for each warrior by rank, and a column for each other by rank.
-pub(crate) fn put_matches<A: Allocator, B: Allocator>(
+pub(crate) fn put_matches<A: Allocator, R: Results>(
     page: &mut Vec<u8, A>,
-    hill: &Hill<B>,
+    results: &R,
     links: Links,
-    rows: &[Row<'_>],
+    rows: &[Ranked<'_>],
 ) -> Result<(), AllocError>
-    ensures { OnOk result (page.new.items ≡ page.old.items ++ matches_text hill.now links (rows_parts rows.now)) }
+    ensures { OnOk result (page.new.items
+        ≡ page.old.items ++ matches_text (R.rounds results.now) links (all_parts rows.now)) }
 {
     page.extend_from_slice(MATCHES_START)?;
     put_heading(page, rows)?;
-    put_rows(page, hill, links, rows)?;
+    put_rows(page, results, links, rows)?;
     page.extend_from_slice(TABLE_END)?;
     Ok(())
 }
 
-fn put_heading<A: Allocator>(page: &mut Vec<u8, A>, rows: &[Row<'_>]) -> Result<(), AllocError>
-    ensures { OnOk result (page.new.items ≡ page.old.items ++ matches_heading (rows_parts rows.now)) }
+fn put_heading<A: Allocator>(page: &mut Vec<u8, A>, rows: &[Ranked<'_>]) -> Result<(), AllocError>
+    ensures { OnOk result (page.new.items ≡ page.old.items ++ matches_heading (all_parts rows.now)) }
 {
     page.extend_from_slice(
         b"<thead><tr><th scope=\"col\">rank</th><th scope=\"col\" class=\"name\">warrior</th>",
@@ -43,13 +44,14 @@ fn put_heading<A: Allocator>(page: &mut Vec<u8, A>, rows: &[Row<'_>]) -> Result<
 
 fn put_rank_headings<A: Allocator>(
     page: &mut Vec<u8, A>,
-    rows: &[Row<'_>],
+    rows: &[Ranked<'_>],
 ) -> Result<(), AllocError>
     ensures { OnOk result (page.new.items ≡ page.old.items
-        ++ flat_map (λ (rank, row). rank_heading rank row) (enumerate_from 1 (rows_parts rows.now))) }
+        ++ flat_map (λ (rank, row). rank_heading rank row) (enumerate_from 1 (all_parts rows.now))) }
 {
     for place in 0..rows.len() {
-        put_rank_heading(page, place as u64 + 1, &rows[place])?;
+        let row = &rows[place];
+        put_rank_heading(page, place as u64 + 1, row)?;
     }
     Ok(())
 }
@@ -58,96 +60,98 @@ fn put_rank_headings<A: Allocator>(
 fn put_rank_heading<A: Allocator>(
     page: &mut Vec<u8, A>,
     rank: u64,
-    row: &Row<'_>,
+    row: &Ranked<'_>,
 ) -> Result<(), AllocError>
-    ensures { OnOk result (page.new.items ≡ page.old.items ++ rank_heading rank (row_parts row.now)) }
+    ensures { OnOk result (page.new.items ≡ page.old.items ++ rank_heading rank (ranked_parts row.now)) }
 {
     page.extend_from_slice(b"<th scope=\"col\" title=\"")?;
-    put_escaped(page, row.name.bytes())?;
+    put_escaped(page, row.name)?;
     page.extend_from_slice(b"\">")?;
     put_number(page, rank)?;
     page.extend_from_slice(b"</th>")?;
     Ok(())
 }
 
-fn put_rows<A: Allocator, B: Allocator>(
+fn put_rows<A: Allocator, R: Results>(
     page: &mut Vec<u8, A>,
-    hill: &Hill<B>,
+    results: &R,
     links: Links,
-    rows: &[Row<'_>],
+    rows: &[Ranked<'_>],
 ) -> Result<(), AllocError>
     ensures { OnOk result (page.new.items ≡ page.old.items
-        ++ matches_rows hill.now links (rows_parts rows.now) (rows_parts rows.now)) }
+        ++ matches_rows (R.rounds results.now) links (all_parts rows.now) (all_parts rows.now)) }
 {
     for place in 0..rows.len() {
-        put_row(page, hill, links, rows, place as u64 + 1, &rows[place])?;
+        let row = &rows[place];
+        put_row(page, results, links, rows, place as u64 + 1, row)?;
     }
     Ok(())
 }
 
 /// Puts the row of a warrior with its rank: a cell for each of these rows.
 #[tactic(auto, unfolding(crate::specs::Matches::matches_row))]
-fn put_row<A: Allocator, B: Allocator>(
+fn put_row<A: Allocator, R: Results>(
     page: &mut Vec<u8, A>,
-    hill: &Hill<B>,
+    results: &R,
     links: Links,
-    rows: &[Row<'_>],
+    rows: &[Ranked<'_>],
     rank: u64,
-    row: &Row<'_>,
+    row: &Ranked<'_>,
 ) -> Result<(), AllocError>
     ensures { OnOk result (page.new.items ≡ page.old.items
-        ++ matches_row hill.now links (rows_parts rows.now) rank (row_parts row.now)) }
+        ++ matches_row (R.rounds results.now) links (all_parts rows.now) rank (ranked_parts row.now)) }
 {
     page.extend_from_slice(b"<tr>")?;
     put_line(page, number_cell(rank))?;
     put_row_heading(page, row)?;
-    put_cells(page, hill, links, row, rows)?;
+    put_cells(page, results, links, row, rows)?;
     page.extend_from_slice(b"</tr>\n")
 }
 
 /// Puts the name of the warrior of a row, by which links name it too.
-fn put_row_heading<A: Allocator>(page: &mut Vec<u8, A>, row: &Row<'_>) -> Result<(), AllocError>
-    ensures { OnOk result (page.new.items ≡ page.old.items ++ row_heading (row_parts row.now)) }
+fn put_row_heading<A: Allocator>(page: &mut Vec<u8, A>, row: &Ranked<'_>) -> Result<(), AllocError>
+    ensures { OnOk result (page.new.items ≡ page.old.items ++ row_heading (ranked_parts row.now)) }
 {
     page.extend_from_slice(b"<th scope=\"row\" class=\"name\" id=\"w")?;
-    put_number(page, row.entry)?;
+    put_number(page, row.number)?;
     page.extend_from_slice(b"\">")?;
-    put_escaped(page, row.name.bytes())?;
+    put_escaped(page, row.name)?;
     page.extend_from_slice(b"</th>")?;
     Ok(())
 }
 
-fn put_cells<A: Allocator, B: Allocator>(
+fn put_cells<A: Allocator, R: Results>(
     page: &mut Vec<u8, A>,
-    hill: &Hill<B>,
+    results: &R,
     links: Links,
-    row: &Row<'_>,
-    rows: &[Row<'_>],
+    row: &Ranked<'_>,
+    rows: &[Ranked<'_>],
 ) -> Result<(), AllocError>
     ensures { OnOk result (page.new.items ≡ page.old.items
-        ++ flat_map (match_cell hill.now links (row_parts row.now)) (rows_parts rows.now)) }
+        ++ flat_map (match_cell (R.rounds results.now) links (ranked_parts row.now)) (all_parts rows.now)) }
 {
     for place in 0..rows.len() {
-        put_cell(page, hill, links, row, &rows[place])?;
+        let other = &rows[place];
+        put_cell(page, results, links, row, other)?;
     }
     Ok(())
 }
 
 /// Puts what the row of one warrior says of another, or of itself.
-fn put_cell<A: Allocator, B: Allocator>(
+fn put_cell<A: Allocator, R: Results>(
     page: &mut Vec<u8, A>,
-    hill: &Hill<B>,
+    results: &R,
     links: Links,
-    row: &Row<'_>,
-    other: &Row<'_>,
+    row: &Ranked<'_>,
+    other: &Ranked<'_>,
 ) -> Result<(), AllocError>
     ensures { OnOk result (page.new.items ≡ page.old.items
-        ++ match_cell hill.now links (row_parts row.now) (row_parts other.now)) }
+        ++ match_cell (R.rounds results.now) links (ranked_parts row.now) (ranked_parts other.now)) }
 {
-    if row.entry == other.entry {
+    if row.number == other.number {
         page.extend_from_slice(b"<td class=\"self\">&middot;</td>")
     } else {
-        let rounds = between(hill, row.entry, other.entry);
+        let rounds = results.against(row.number, other.number);
         put_fought_cell(page, links, rounds, row, other)
     }
 }
@@ -158,14 +162,11 @@ fn put_fought_cell<A: Allocator>(
     page: &mut Vec<u8, A>,
     links: Links,
     rounds: Tally,
-    row: &Row<'_>,
-    other: &Row<'_>,
+    row: &Ranked<'_>,
+    other: &Ranked<'_>,
 ) -> Result<(), AllocError>
-    requires won { rounds.won ≤ 65535 }
-    requires lost { rounds.lost ≤ 65535 }
-    requires tied { rounds.tied ≤ 65535 }
     ensures { OnOk result (page.new.items ≡ page.old.items
-        ++ fought_cell links rounds (row_parts row.now) (row_parts other.now)) }
+        ++ fought_cell links rounds (ranked_parts row.now) (ranked_parts other.now)) }
 {
     put_cell_start(page, rounds, row, other)?;
     put_fought(page, links, rounds, row, other)?;
@@ -176,14 +177,11 @@ fn put_fought_cell<A: Allocator>(
 fn put_cell_start<A: Allocator>(
     page: &mut Vec<u8, A>,
     rounds: Tally,
-    row: &Row<'_>,
-    other: &Row<'_>,
+    row: &Ranked<'_>,
+    other: &Ranked<'_>,
 ) -> Result<(), AllocError>
-    requires won { rounds.won ≤ 65535 }
-    requires lost { rounds.lost ≤ 65535 }
-    requires tied { rounds.tied ≤ 65535 }
     ensures { OnOk result (page.new.items ≡ page.old.items
-        ++ cell_start rounds (row_parts row.now) (row_parts other.now)) }
+        ++ cell_start rounds (ranked_parts row.now) (ranked_parts other.now)) }
 {
     page.extend_from_slice(b"<td class=\"")?;
     put_shade(page, rounds)?;
@@ -197,18 +195,15 @@ fn put_cell_start<A: Allocator>(
 #[tactic(auto, unfolding(crate::specs::Matches::sides_text))]
 fn put_sides<'r, A: Allocator>(
     page: &mut Vec<u8, A>,
-    row: &'r Row<'r>,
-    other: &'r Row<'r>,
+    row: &'r Ranked<'r>,
+    other: &'r Ranked<'r>,
 ) -> Result<(), AllocError>
-    ensures { OnOk result (page.new.items ≡ page.old.items ++ sides_text (row_parts row.now) (row_parts other.now)) }
+    ensures { OnOk result (page.new.items
+        ≡ page.old.items ++ sides_text (ranked_parts row.now) (ranked_parts other.now)) }
 {
     put_all(
         page,
-        &[
-            Escaped(row.name.bytes()),
-            Text(b" against "),
-            Escaped(other.name.bytes()),
-        ],
+        &[Escaped(row.name), Text(b" against "), Escaped(other.name)],
     )
 }
 
@@ -218,19 +213,19 @@ fn put_fought<A: Allocator>(
     page: &mut Vec<u8, A>,
     links: Links,
     rounds: Tally,
-    row: &Row<'_>,
-    other: &Row<'_>,
+    row: &Ranked<'_>,
+    other: &Ranked<'_>,
 ) -> Result<(), AllocError>
     ensures { OnOk result (page.new.items ≡ page.old.items
-        ++ fought_text links rounds (row_parts row.now) (row_parts other.now)) }
+        ++ fought_text links rounds (ranked_parts row.now) (ranked_parts other.now)) }
 {
     match links {
         Links::None => put_line(page, rounds_line(rounds)),
         Links::Rounds => {
-            let older = row.entry.min(other.entry);
-            let younger = row.entry.max(other.entry);
+            let older = row.number.min(other.number);
+            let younger = row.number.max(other.number);
             put_line(page, link_start(older, younger))?;
-            put_label(page, row.entry, other.entry)?;
+            put_label(page, row.number, other.number)?;
             put_line(page, rounds_line(rounds))?;
             page.extend_from_slice(b"</a>")
         }

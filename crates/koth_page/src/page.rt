@@ -2,14 +2,13 @@
 
 ghost use Rattle.std.specs.{Prelude.{◌≡◌, ℕ, List, ◌++◌, codes, IfOk, IsTrue, OnOk}, List.list_all};
 ghost use Rattle.{koth_hill.specs.Rows.rows_parts, koth_text.specs.{Characters.{is_harmless, is_page_byte, markup_of}, Escape.escaped}};
-ghost use Rattle.koth_page.specs.{Laws.{nameless, with_seed}, Page.{hill_page, page_of, tables_text}, Sign.sign_parts};
+ghost use Rattle.koth_page.specs.{Laws.{nameless, with_seed}, Page.{hill_page, page_of}, Sign.sign_parts};
 
 use crate::links::Links;
-use crate::matches::put_matches;
 use crate::parts::END;
 use crate::settings::put_settings;
 use crate::sign::Sign;
-use crate::standing::put_standing;
+use crate::tables::put_hill_tables;
 use crate::top::put_top;
 use koth_hill::{Hill, Row};
 use std::alloc::{AllocError, Allocator};
@@ -54,7 +53,7 @@ fn page_of<A: Allocator + Copy, B: Allocator>(
 }
 
 /// The page of a hill with these rows.
-fn page_with<A: Allocator, B: Allocator>(
+fn page_with<A: Allocator + Copy, B: Allocator>(
     alloc: A,
     hill: &Hill<B>,
     sign: &Sign<'_>,
@@ -64,11 +63,12 @@ fn page_with<A: Allocator, B: Allocator>(
     ensures { IfOk result (λ page. page.items ≡ page_of hill.now (sign_parts sign.now) links (rows_parts rows.now)) }
 {
     let mut page = Vec::new(alloc);
-    put_page(&mut page, hill, sign, links, rows)?;
+    put_page(alloc, &mut page, hill, sign, links, rows)?;
     Ok(page)
 }
 
-fn put_page<A: Allocator, B: Allocator>(
+fn put_page<A: Allocator + Copy, B: Allocator>(
+    alloc: A,
     page: &mut Vec<u8, A>,
     hill: &Hill<B>,
     sign: &Sign<'_>,
@@ -80,23 +80,7 @@ fn put_page<A: Allocator, B: Allocator>(
 {
     put_top(page, sign, rows)?;
     put_settings(page, hill.settings())?;
-    put_tables(page, hill, links, rows)?;
+    put_hill_tables(alloc, page, hill, links, rows)?;
     page.extend_from_slice(END)?;
     Ok(())
-}
-
-/// Puts the tables of these rows, if there are any.
-fn put_tables<A: Allocator, B: Allocator>(
-    page: &mut Vec<u8, A>,
-    hill: &Hill<B>,
-    links: Links,
-    rows: &[Row<'_>],
-) -> Result<(), AllocError>
-    ensures { OnOk result (page.new.items ≡ page.old.items ++ tables_text hill.now links (rows_parts rows.now)) }
-{
-    if rows.is_empty() {
-        return Ok(());
-    }
-    put_standing(page, hill, rows)?;
-    put_matches(page, hill, links, rows)
 }

@@ -1,6 +1,6 @@
-//! The parts of a page that are the same on every hill.
+//! The parts of a page that are the same for every hill and every ranking.
 
-/// From the beginning of a page to the hill's title as the browser's.
+/// From the beginning of a page to its title as the browser's.
 pub(crate) const HEAD: &[u8] = b"<!DOCTYPE html>
 <html lang=\"en\">
 <head>
@@ -8,7 +8,7 @@ pub(crate) const HEAD: &[u8] = b"<!DOCTYPE html>
 <meta name=\"viewport\" content=\"width=device-width, initial-scale=1\">
 <title>";
 
-/// From there to the hill's title on the page. The style sheet is here.
+/// From there to the title on the page. The style sheet is here.
 pub(crate) const BODY_START: &[u8] = b"</title>
 <style>
 :root {
@@ -76,25 +76,36 @@ pub(crate) const EMPTY: &[u8] =
 free. After that, the one with the fewest points falls.</p>
 ";
 
-/// What is under the line of the settings: what they mean, and what a hill is.
+/// What follows the line of the settings of a hill: what a hill is.
 pub(crate) const RULES: &[u8] = b"</summary>
 <p>A hill is a table of warriors of Core War, each of which has fought all the others: a round that it won counts three
 points, and a round that nobody won counts one. If a warrior comes to a full hill, the one with the fewest points
-falls.</p>
+falls.</p>";
+
+/// What follows the line of the settings of a ranking: what a ranking is.
+pub(crate) const RANKING_RULES: &[u8] = b"</summary>
+<p>Each two of these warriors of Core War have fought each other: a round that a warrior won counts three points for
+it, and a tie counts one. Of those with as many points the earlier source is first.</p>";
+
+/// What follows these: what the settings mean.
+pub(crate) const MEANINGS: &[u8] = b"
 <p>Core is the number of cells. After these cycles, in each of which both warriors have a turn, a round is a tie. A
 warrior has at most these processes, and its length is at most that; two are loaded at least the distance apart.
 Limits say how far from itself an instruction reads and writes.</p>
 </details>
 ";
 
-/// From the settings of a hill to the headings of its table.
+/// What a ranking without warriors has in place of tables.
+pub(crate) const UNRANKED: &[u8] = b"<p>There is no warrior to rank.</p>\n";
+
+/// From the settings to the headings of the table.
 pub(crate) const STANDING_START: &[u8] = b"<h2 id=\"table\">Table</h2>
 <div class=\"scroll\" role=\"region\" aria-labelledby=\"table\" tabindex=\"0\">
 <table class=\"standing\">
 <caption>Warriors by rank, with the rounds of all their matches</caption>
 ";
 
-/// From a hill's table to the headings of its matches.
+/// From the table to the headings of the matches.
 pub(crate) const MATCHES_START: &[u8] = b"<h2 id=\"matches\">Matches</h2>
 <p>Rounds that the row won and lost against the column; the rest are ties. Blue is more won, orange more lost.</p>
 <div class=\"scroll\" role=\"region\" aria-labelledby=\"matches\" tabindex=\"0\">

@@ -1,16 +1,16 @@
-//! The settings of a hill.
+//! The settings of a hill or a ranking.
 
 ghost use Rattle.std.specs.Prelude.{◌≡◌, ◌==◌, if◌then◌else◌, ◌++◌, [], codes, OnOk};
-ghost use Rattle.koth_page.specs.Settings.{limit_text, limits_text, machine_text, rules_text, setting_text, settings_text};
+ghost use Rattle.koth_page.specs.Settings.{hill_line, limit_text, limits_text, machine_text, orders_text, ranking_line, ranking_settings, rules_text, setting_text, settings_text};
 
-use crate::parts::RULES;
+use crate::parts::{MEANINGS, RANKING_RULES, RULES};
 use koth_text::Piece::{Number, Text};
 use koth_text::put_all;
 use std::alloc::{AllocError, Allocator};
 use war_types::Settings;
 
-/// Puts the settings in a line that opens what they mean. Limits are among them where they are on, and the seed stays
-/// secret.
+/// Puts the settings of a hill in a line that opens what they mean. Limits are among them where they are on, and the
+/// seed stays secret.
 #[tactic(auto, unfolding(crate::specs::Settings::settings_text))]
 pub(crate) fn put_settings<A: Allocator>(
     page: &mut Vec<u8, A>,
@@ -18,10 +18,55 @@ pub(crate) fn put_settings<A: Allocator>(
 ) -> Result<(), AllocError>
     ensures { OnOk result (page.new.items ≡ page.old.items ++ settings_text settings.now) }
 {
+    put_hill_line(page, settings)?;
+    page.extend_from_slice(RULES)?;
+    page.extend_from_slice(MEANINGS)
+}
+
+#[tactic(auto, unfolding(crate::specs::Settings::hill_line))]
+fn put_hill_line<A: Allocator>(page: &mut Vec<u8, A>, settings: &Settings) -> Result<(), AllocError>
+    ensures { OnOk result (page.new.items ≡ page.old.items ++ hill_line settings.now) }
+{
     put_machine(page, settings)?;
     put_rules(page, settings)?;
-    put_limits(page, settings)?;
-    page.extend_from_slice(RULES)
+    put_setting(page, b", places ", u64::from(settings.capacity()))?;
+    put_limits(page, settings)
+}
+
+/// Puts the settings of a ranking in a line that opens what they mean, as those of a hill: it has no places, and each
+/// match is in both orders or in one.
+#[tactic(auto, unfolding(crate::specs::Settings::ranking_settings))]
+pub(crate) fn put_ranking_settings<A: Allocator>(
+    page: &mut Vec<u8, A>,
+    settings: &Settings,
+    both: bool,
+) -> Result<(), AllocError>
+    ensures { OnOk result (page.new.items ≡ page.old.items ++ ranking_settings settings.now both) }
+{
+    put_ranking_line(page, settings, both)?;
+    page.extend_from_slice(RANKING_RULES)?;
+    page.extend_from_slice(MEANINGS)
+}
+
+#[tactic(auto, unfolding(crate::specs::Settings::ranking_line))]
+fn put_ranking_line<A: Allocator>(
+    page: &mut Vec<u8, A>,
+    settings: &Settings,
+    both: bool,
+) -> Result<(), AllocError>
+    ensures { OnOk result (page.new.items ≡ page.old.items ++ ranking_line settings.now both) }
+{
+    put_machine(page, settings)?;
+    put_rules(page, settings)?;
+    page.extend_from_slice(orders(both))?;
+    put_limits(page, settings)
+}
+
+/// What is said of the orders in which each match is fought.
+fn orders(both: bool) -> &'static [u8]
+    ensures { result.now ≡ orders_text both }
+{
+    if both { b" in both orders" } else { b"" }
 }
 
 #[tactic(auto, unfolding(crate::specs::Settings::machine_text))]
@@ -43,8 +88,7 @@ fn put_rules<A: Allocator>(page: &mut Vec<u8, A>, settings: &Settings) -> Result
 {
     put_setting(page, b", length ", u64::from(settings.length()))?;
     put_setting(page, b", distance ", u64::from(settings.distance()))?;
-    put_setting(page, b", rounds ", u64::from(settings.rounds()))?;
-    put_setting(page, b", places ", u64::from(settings.capacity()))
+    put_setting(page, b", rounds ", u64::from(settings.rounds()))
 }
 
 #[tactic(auto, unfolding(crate::specs::Settings::limits_text))]

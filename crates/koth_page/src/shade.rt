@@ -1,6 +1,6 @@
 //! The shade of a cell: by how much one side is ahead.
 
-ghost use Rattle.std.specs.Prelude.{◌≡◌, ◌≤◌, ◌++◌, OnOk};
+ghost use Rattle.std.specs.Prelude.{◌≡◌, ◌<◌, ◌*◌, ◌^◌, ◌++◌, OnOk};
 ghost use Rattle.koth_page.specs.Shade.{quarter, shade};
 
 use koth_text::Piece::{Number, Text};
@@ -13,32 +13,24 @@ pub(crate) fn put_shade<A: Allocator>(
     page: &mut Vec<u8, A>,
     rounds: Tally,
 ) -> Result<(), AllocError>
-    requires won { rounds.won ≤ 65535 }
-    requires lost { rounds.lost ≤ 65535 }
-    requires tied { rounds.tied ≤ 65535 }
     ensures { OnOk result (page.new.items ≡ page.old.items ++ shade rounds) }
 {
-    let all = rounds.won + rounds.lost + rounds.tied;
+    let (won, lost) = (u128::from(rounds.won), u128::from(rounds.lost));
+    let all = won + lost + u128::from(rounds.tied);
     if rounds.lost < rounds.won {
-        put_all(
-            page,
-            &[Text(b"w"), Number(quarter(rounds.won, rounds.lost, all))],
-        )
+        put_all(page, &[Text(b"w"), Number(quarter(won, lost, all))])
     } else if rounds.won < rounds.lost {
-        put_all(
-            page,
-            &[Text(b"l"), Number(quarter(rounds.lost, rounds.won, all))],
-        )
+        put_all(page, &[Text(b"l"), Number(quarter(lost, won, all))])
     } else {
         page.extend_from_slice(b"e")
     }
 }
 
 /// In which quarter of all rounds it lies by how many `one` is more than `other`, from 1 on.
-fn quarter(one: u64, other: u64, all: u64) -> u64
-    requires one { one ≤ 65535 }
-    requires other { other ≤ 65535 }
-    requires all { all ≤ 196605 }
+fn quarter(one: u128, other: u128, all: u128) -> u64
+    requires one { one < 2 ^ 64 }
+    requires other { other < 2 ^ 64 }
+    requires all { all < 3 * 2 ^ 64 }
     ensures { result ≡ quarter one other all }
 {
     if 3 * all + 4 * other < 4 * one {

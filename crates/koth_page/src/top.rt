@@ -26,7 +26,8 @@ pub(crate) fn put_top<A: Allocator>(
     Ok(())
 }
 
-fn put_head<A: Allocator>(page: &mut Vec<u8, A>, title: &[u8]) -> Result<(), AllocError>
+/// Puts the head of a page with this title, and the title.
+pub(crate) fn put_head<A: Allocator>(page: &mut Vec<u8, A>, title: &[u8]) -> Result<(), AllocError>
     ensures { OnOk result (page.new.items ≡ page.old.items ++ head_text title.now) }
 {
     page.extend_from_slice(HEAD)?;

@@ -1,2 +1,4 @@
 mod Fought
 mod Ranked
+mod Parts
+mod PartsJoined

@@ -9,7 +9,8 @@ use hill_store::Reply;
 use koth_client::{Ending, Told, ask_table, submit};
 use koth_commands::trouble::Trouble;
 use koth_commands::{Answer, Status, name_text, open_source, text_from};
-use koth_hills::{REPLY_LINE, SourceText, reply_answer};
+use koth_hills::{REPLY_LINE, Rooms, SourceText, reply_answer};
+use koth_json::put_placed;
 use koth_protocol::Counted;
 use koth_words::{Sent, Source, View, Way};
 use std::alloc::{AllocError, Allocator};
@@ -148,9 +149,24 @@ fn answered<A: Allocator + Copy>(
 ) -> Result<Answer<A>, AllocError>
     ensures ends { IfOk result (λ answer. EndsAsReply answer.status) }
 {
-    let room = Vec::with_capacity(alloc, REPLY_LINE)?;
-    let answer = reply_answer(alloc, room, settings, source, view, reply, b"")?;
+    let line = Vec::with_capacity(alloc, REPLY_LINE)?;
+    let placed = placed_line(alloc, view, reply)?;
+    let rooms = Rooms { line, placed };
+    let answer = reply_answer(alloc, rooms, settings, source, view, reply, b"")?;
     Ok(answer)
+}
+
+/// As JSON, the line of a warrior that is placed. A port doesn't say who is pushed off.
+fn placed_line<A: Allocator>(
+    alloc: A,
+    view: View,
+    reply: &Reply,
+) -> Result<Vec<u8, A>, AllocError> {
+    let mut line = Vec::new(alloc);
+    if let (View::Json, Reply::Placed { entry, rank, score }) = (view, *reply) {
+        put_placed(&mut line, entry, rank, score)?;
+    }
+    Ok(line)
 }
 
 /// The same answer with its text in the note, in front of the rest.

@@ -22,16 +22,30 @@ nothing_written a b w = stays a b w.part (none_first w.part w.rest w.split) w.wr
 
 module _ (s : RawSettings) (view : View) (IsTold : List ℕ → List ℕ → Type 0) (IsNothing : Type 0) where
   -- if there is no match, the answer is the same whatever would be told of one
-  none_as : (status : Status) (text note : List ℕ) → AnswersMatch s view (λ t. ⊥) ⊥ status text note → AnswersAs s view IsTold IsNothing status text note
-  none_as Status.Done text note answers = absurd answers.0
-  none_as Status.Refused text note (inl refused) = inl refused
-  none_as Status.Refused text note (inr nothing) = absurd nothing.0
-  none_as status text note answers = absurd answers
+  none_as : (IsOther : Type 0) → (IsOther → IsNothing) → (status : Status) (text note : List ℕ) → AnswersMatch s view (λ t. ⊥) IsOther status text note
+      → AnswersAs s view IsTold IsNothing status text note
+  none_as IsOther so Status.Done text note answers = absurd answers.0
+  none_as IsOther so Status.Refused text note (inl refused) = inl refused
+  none_as IsOther so Status.Refused text note (inr nothing) = inr (so nothing.0, nothing.1)
+  none_as IsOther so status text note answers = absurd answers
 
-  pub answers_none : (r : Result AnswerParts Trouble) → MatchResult r (IsMatchAnswer s view (λ t. ⊥) ⊥) IsReadFault
+  pub answers_none : (IsOther : Type 0) → (IsOther → IsNothing) → (r : Result AnswerParts Trouble) → MatchResult r (IsMatchAnswer s view (λ t. ⊥) IsOther) IsReadFault
       → MatchResult r (IsAnswer s view IsTold IsNothing) IsReadFault
-  answers_none (Ok a) is = none_as a.status a.text a.note is
-  answers_none (Err trouble) is = is
+  answers_none IsOther so (Ok a) is = none_as IsOther so a.status a.text a.note is
+  answers_none IsOther so (Err trouble) is = is
+
+  -- there is nothing to write, for one of more reasons
+  also_as : (IsOther : Type 0) → (IsOther → IsNothing) → (status : Status) (text note : List ℕ) → AnswersAs s view IsTold IsOther status text note
+      → AnswersAs s view IsTold IsNothing status text note
+  also_as IsOther so Status.Done text note told = told
+  also_as IsOther so Status.Refused text note (inl refused) = inl refused
+  also_as IsOther so Status.Refused text note (inr nothing) = inr (so nothing.0, nothing.1)
+  also_as IsOther so status text note answers = absurd answers
+
+  pub answers_also : (IsOther : Type 0) → (IsOther → IsNothing) → (r : Result AnswerParts Trouble) → MatchResult r (IsAnswer s view IsTold IsOther) IsReadFault
+      → MatchResult r (IsAnswer s view IsTold IsNothing) IsReadFault
+  answers_also IsOther so (Ok a) is = also_as IsOther so a.status a.text a.note is
+  answers_also IsOther so (Err trouble) is = is
 
   module _ (o p e f : Option (List ℕ)) where
     whole_ends : (status : Status) (text note : List ℕ) → AnswersAs s view IsTold IsNothing status text note → Appends o p text → WritesPart e f note

@@ -1,5 +1,5 @@
 -- The round that is asked for: by its number, or the first that ended in some way.
-use Rattle.std.specs.Prelude.{◌≡◌, ℕ, ◌+◌, Bool, true, if◌then◌else◌, Option, None, Some, MatchOption, Result, Ok, Err}
+use Rattle.std.specs.Prelude.{◌≡◌, ◌⊎◌, ℕ, ◌+◌, Bool, true, if◌then◌else◌, Option, None, Some, MatchOption, Result, Ok, Err}
 use Rattle.war_types.specs.{Settings.is_from_to, Warrior.WarriorParts, declared.settings.RawSettings.RawSettings, declared.settings.SettingsFault.SettingsFault}
 use Rattle.{koth_words.specs.declared.requests.Round.Round, mars_core.specs.declared.round.Outcome.Outcome, koth_commands.specs.Pair.IsWarriorOf, koth_contests.specs.Rounds.IsFirst}
 
@@ -52,3 +52,7 @@ pub record HasNone (s : RawSettings) (round : Round) : Type 0 where
   pub older_comes : IsWarriorOf s older
   pub younger_comes : IsWarriorOf s younger
   pub none : IsUnplayed s older younger round
+
+-- no round is shown: the match has no such one, or a definition is given, maybe of another name
+abbrev pub ShowsNone : RawSettings → Round → Bool → Type 0
+ShowsNone s round defines = HasNone s round ⊎ (defines ≡ true)

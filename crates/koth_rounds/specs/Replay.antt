@@ -3,7 +3,7 @@ use Rattle.std.specs.Prelude.{◌≡◌, ℕ, Bool, true, false, Option, List, [
 use Rattle.war_types.specs.{Warrior.WarriorParts, declared.settings.RawSettings.RawSettings, declared.settings.SettingsFault.SettingsFault}
 use Rattle.koth_words.specs.declared.requests.{Round.Round, View.View}
 use Rattle.koth_commands.specs.{Answer.{AnswerParts, EndsGiven, answer_parts}, Pair.IsWarriorOf, Streams.Streams, declared.status.Status.Status}
-use Rattle.koth_rounds.specs.{Asked.{HasNone, IsShown, with_round}, Ends.EndsShown, Page.{IsRoundText, IsSentence}}
+use Rattle.koth_rounds.specs.{Asked.{IsShown, ShowsNone, with_round}, Ends.EndsShown, Page.{IsRoundText, IsSentence}}
 
 -- the page of the match of two warriors whose sources assemble, and the sentence of its round
 pub record IsWatched (s : RawSettings) (round : Round) (text note : List ℕ) : Type 0 where
@@ -32,11 +32,11 @@ with_page named a = answer_parts a.status (page_left named a.status a.text) a.no
 -- how `replay` ends under settings, by what the output and then standard error hold before and after. It writes the
 -- page of that round, and how it ended for people, or there is no match or no such round, or a stream failed and maybe a
 -- part of the answer was written
-abbrev pub EndsReplayUnder : RawSettings → Round → Bool → Status → Option (List ℕ) → Option (List ℕ) → Option (List ℕ) → Option (List ℕ) → Type 0
-EndsReplayUnder s round named status o p e f = EndsShown s View.Plain (IsPage s round named) (HasNone s round) status o p e f
+abbrev pub EndsReplayUnder : RawSettings → Round → Bool → Bool → Status → Option (List ℕ) → Option (List ℕ) → Option (List ℕ) → Option (List ℕ) → Type 0
+EndsReplayUnder s round defines named status o p e f = EndsShown s View.Plain (IsPage s round named) (ShowsNone s round defines) status o p e f
 
--- how `replay` of this round ends: as under the settings that are given, with their refusal, also if their match
+-- how `replay` of this round ends, with a definition or without: as under the settings that are given, with their refusal, also if their match
 -- doesn't have the round, or out of memory
-abbrev pub EndsReplay : Round → Bool → Result RawSettings SettingsFault → Status → Streams → Streams → Type 0
-EndsReplay round named settings status before after =
-    EndsGiven (λ s end u v. EndsReplayUnder s round named end u.output v.output u.errors v.errors) (with_round round settings) status before after
+abbrev pub EndsReplay : Round → Bool → Bool → Result RawSettings SettingsFault → Status → Streams → Streams → Type 0
+EndsReplay round defines named settings status before after =
+    EndsGiven (λ s end u v. EndsReplayUnder s round defines named end u.output v.output u.errors v.errors) (with_round round settings) status before after

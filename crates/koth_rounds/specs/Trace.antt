@@ -1,10 +1,10 @@
 -- What the command `trace` writes, and how it ends.
-use Rattle.std.specs.Prelude.{◌≡◌, ℕ, ◌-◌, ◌*◌, Option, None, Some, List, [], length, Result}
+use Rattle.std.specs.Prelude.{◌≡◌, ℕ, ◌-◌, ◌*◌, Bool, Option, None, Some, List, [], length, Result}
 use Rattle.war_types.specs.{Warrior.WarriorParts, declared.settings.RawSettings.RawSettings, declared.settings.SettingsFault.SettingsFault}
 use Rattle.koth_replay.specs.{Replay.{IsReplay, ReplayParts, begun, turns_in}, Story.IsStory, declared.story.Story.Story}
 use Rattle.koth_words.specs.declared.requests.{Form.Form, Round.Round, View.View}
 use Rattle.koth_commands.specs.{Answer.EndsGiven, Pair.IsWarriorOf, Streams.Streams, declared.status.Status.Status}
-use Rattle.koth_rounds.specs.{Asked.{HasNone, IsShown, with_round}, Ends.EndsShown, Turns.turns_text}
+use Rattle.koth_rounds.specs.{Asked.{IsShown, ShowsNone, with_round}, Ends.EndsShown, Turns.turns_text}
 
 -- the first turn that is written, of `count`, counted from 0: all are, or the last ones
 abbrev pub first_written : Option ℕ → ℕ → ℕ
@@ -38,11 +38,11 @@ view_of Form.Text = View.Plain
 view_of Form.Json = View.Json
 
 -- how `trace` ends under settings, by what the output and then standard error hold before and after
-abbrev pub EndsTraceUnder : RawSettings → Round → Option ℕ → Form → Status → Option (List ℕ) → Option (List ℕ) → Option (List ℕ) → Option (List ℕ) → Type 0
-EndsTraceUnder s round last form status o p e f = EndsShown s (view_of form) (IsTraced s round last form) (HasNone s round) status o p e f
+abbrev pub EndsTraceUnder : RawSettings → Round → Bool → Option ℕ → Form → Status → Option (List ℕ) → Option (List ℕ) → Option (List ℕ) → Option (List ℕ) → Type 0
+EndsTraceUnder s round defines last form status o p e f = EndsShown s (view_of form) (IsTraced s round last form) (ShowsNone s round defines) status o p e f
 
--- how `trace` of this round ends: as under the settings that are given, with their refusal, also if their match doesn't
+-- how `trace` of this round ends, with a definition or without: as under the settings that are given, with their refusal, also if their match doesn't
 -- have the round, or out of memory
-abbrev pub EndsTrace : Round → Option ℕ → Form → Result RawSettings SettingsFault → Status → Streams → Streams → Type 0
-EndsTrace round last form settings status before after =
-    EndsGiven (λ s end u v. EndsTraceUnder s round last form end u.output v.output u.errors v.errors) (with_round round settings) status before after
+abbrev pub EndsTrace : Round → Bool → Option ℕ → Form → Result RawSettings SettingsFault → Status → Streams → Streams → Type 0
+EndsTrace round defines last form settings status before after =
+    EndsGiven (λ s end u v. EndsTraceUnder s round defines last form end u.output v.output u.errors v.errors) (with_round round settings) status before after

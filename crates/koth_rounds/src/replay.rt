@@ -2,7 +2,7 @@
 
 ghost use Rattle.std.specs.Prelude.{◌≡◌, true, None, IfErr, IfOk, OnOk, MatchResult, is_some};
 ghost use Rattle.{war_types.specs.Settings.settings_of, koth_commands.specs.{Streams.streams, Trouble.IsReadFault}, koth_contests.specs.Pair.ArePairOf};
-ghost use Rattle.koth_rounds.specs.{Asked.{has_round, may_have, HasNone, IsShown}, Ends.IsAnswer, Replay.{with_page, EndsReplay, EndsReplayUnder, IsPage, IsWatched}};
+ghost use Rattle.koth_rounds.specs.{Asked.{has_round, may_have, HasNone, IsShown, ShowsNone}, Ends.IsAnswer, Replay.{with_page, EndsReplay, EndsReplayUnder, IsPage, IsWatched}};
 
 use crate::asked::{none_told, number_of, number_past, refuse_round};
 use crate::page::{page_told, sentence_told, told_round};
@@ -17,7 +17,8 @@ use std::io::{Read, Write};
 use std::rt::Files;
 use war_types::{RawSettings, Settings};
 
-/// Plays a round of the match of two warriors, under the settings that are given, and writes the page that shows it, on
+/// Plays a round of the match of two warriors, the older one with a definition if one is given, under the settings that
+/// are given, and writes the page that shows it, on
 /// the output or to a file, which is made only where there is a page; and for people, on standard error, how it ended,
 /// and why. Settings that are out of their ranges are refused
 /// before anything is read, and so is a round that the match doesn't have. The older warrior is read and assembled
@@ -31,7 +32,7 @@ pub fn replay<R: Files, A: Allocator + Copy, I: Read, O: Write, E: Write>(
     output: &mut O,
     errors: &mut E,
 ) -> Status
-    ensures { EndsReplay watched.entry.round (is_some watched.entry.page) (settings_of given) result
+    ensures { EndsReplay watched.entry.round (is_some watched.entry.define) (is_some watched.entry.page) (settings_of given) result
         (streams None (O.contents output.old) (E.contents errors.old))
         (streams None (O.contents output.new) (E.contents errors.new)) }
 {
@@ -55,7 +56,8 @@ fn replay_asked<R: Files, A: Allocator + Copy, I: Read, O: Write, E: Write>(
     errors: &mut E,
 ) -> Status
     requires { may_have settings.now watched.round ≡ true }
-    ensures { EndsReplayUnder settings.now watched.entry.round (is_some watched.entry.page) result
+    ensures { EndsReplayUnder settings.now watched.entry.round (is_some watched.entry.define)
+        (is_some watched.entry.page) result
         (O.contents output.old) (O.contents output.new) (E.contents errors.old) (E.contents errors.new) }
 {
     let done = replay_under(rt, alloc, settings, watched, input);
@@ -73,10 +75,11 @@ fn replay_under<'w, R: Files, A: Allocator + Copy, I: Read>(
     requires { may_have settings.now watched.round ≡ true }
     ensures { MatchResult result
         (IsAnswer settings.now View.Plain (IsPage settings.now watched.entry.round (is_some watched.entry.page))
-        (HasNone settings.now watched.entry.round))
+        (ShowsNone settings.now watched.entry.round (is_some watched.entry.define)))
         IsReadFault }
 {
-    match pair_from(rt, alloc, settings, watched.older, watched.younger, input) {
+    let (older, younger) = (watched.older, watched.younger);
+    match pair_from(rt, alloc, settings, watched.define, older, younger, input) {
         Ok(pair) => answer_pair(rt, alloc, settings, &pair, watched),
         Err(none) => answer_none(alloc, settings, none, View::Plain),
     }

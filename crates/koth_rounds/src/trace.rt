@@ -1,8 +1,8 @@
 //! The command `trace`: from the sources of two warriors to the turns of one round of their match.
 
-ghost use Rattle.std.specs.Prelude.{◌≡◌, true, None, IfOk, MatchResult};
+ghost use Rattle.std.specs.Prelude.{◌≡◌, true, None, IfOk, MatchResult, is_some};
 ghost use Rattle.{war_types.specs.Settings.settings_of, koth_commands.specs.{Streams.streams, Trouble.IsReadFault}, koth_contests.specs.Pair.ArePairOf};
-ghost use Rattle.koth_rounds.specs.{Asked.{has_round, may_have, HasNone, IsShown}, Ends.IsAnswer, Trace.{view_of, EndsTrace, EndsTraceUnder, IsTraced}};
+ghost use Rattle.koth_rounds.specs.{Asked.{has_round, may_have, HasNone, IsShown, ShowsNone}, Ends.IsAnswer, Trace.{view_of, EndsTrace, EndsTraceUnder, IsTraced}};
 
 use crate::asked::{none_told, number_of, number_past, refuse_round};
 use crate::traced::trace_text;
@@ -15,8 +15,8 @@ use std::io::{Read, Write};
 use std::rt::Files;
 use war_types::{RawSettings, Settings};
 
-/// Plays a round of the match of two warriors, under the settings that are given, and writes its turns, each with what
-/// it changed. Settings that are out of their ranges are refused before anything is read, and so is a round that the
+/// Plays a round of the match of two warriors, the older one with a definition if one is given, under the settings that
+/// are given, and writes its turns, each with what it changed. Settings that are out of their ranges are refused before anything is read, and so is a round that the
 /// match doesn't have. The older warrior is read and assembled before the younger one's source is opened.
 pub fn trace<R: Files, A: Allocator + Copy, I: Read, O: Write, E: Write>(
     rt: &R,
@@ -27,7 +27,7 @@ pub fn trace<R: Files, A: Allocator + Copy, I: Read, O: Write, E: Write>(
     output: &mut O,
     errors: &mut E,
 ) -> Status
-    ensures { EndsTrace traced.entry.round traced.entry.last traced.entry.form (settings_of given) result
+    ensures { EndsTrace traced.entry.round (is_some traced.entry.define) traced.entry.last traced.entry.form (settings_of given) result
         (streams None (O.contents output.old) (E.contents errors.old))
         (streams None (O.contents output.new) (E.contents errors.new)) }
 {
@@ -51,7 +51,8 @@ fn trace_asked<R: Files, A: Allocator + Copy, I: Read, O: Write, E: Write>(
     errors: &mut E,
 ) -> Status
     requires { may_have settings.now traced.round ≡ true }
-    ensures { EndsTraceUnder settings.now traced.entry.round traced.entry.last traced.entry.form result
+    ensures { EndsTraceUnder settings.now traced.entry.round (is_some traced.entry.define) traced.entry.last
+        traced.entry.form result
         (O.contents output.old) (O.contents output.new) (E.contents errors.old) (E.contents errors.new) }
 {
     let done = trace_under(rt, alloc, settings, traced, input);
@@ -70,10 +71,11 @@ fn trace_under<'w, R: Files, A: Allocator + Copy, I: Read>(
     ensures { MatchResult result
         (IsAnswer settings.now (view_of traced.entry.form)
         (IsTraced settings.now traced.entry.round traced.entry.last traced.entry.form)
-        (HasNone settings.now traced.entry.round))
+        (ShowsNone settings.now traced.entry.round (is_some traced.entry.define)))
         IsReadFault }
 {
-    match pair_from(rt, alloc, settings, traced.older, traced.younger, input) {
+    let (older, younger) = (traced.older, traced.younger);
+    match pair_from(rt, alloc, settings, traced.define, older, younger, input) {
         Ok(pair) => answer_pair(alloc, settings, &pair, traced),
         Err(none) => answer_none(alloc, settings, none, view_of(traced.form)),
     }

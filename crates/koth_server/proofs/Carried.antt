@@ -1,20 +1,20 @@
 -- What a run promises for its arguments, from how its request ended, or from why there is none.
-use Rattle.std.proofs.Common.{◌≡◌, ◌≢◌, ◌⊎◌, ℕ, Bool, Bor, true, false, true≢false, if◌then◌else◌, is_some, ap, List, [], IfOk, Option, None, Some, Result, Ok, Err, inl, inr, ◌∙◌, refl, sym, subst, codes, option_map}
+use Rattle.std.proofs.Common.{◌≡◌, ◌≢◌, ◌⊎◌, ℕ, Bool, Bor, true, false, true≢false, if◌then◌else◌, is_some, ap, List, [], IfOk, Option, None, Some, Result, Ok, Err, inl, inr, length, ◌∙◌, refl, sym, subst, codes, option_map}
 use Rattle.{std.specs.{Prelude.{⊤, unwrap_or}, Str.bytes_eq}, std.proofs.{KnownBytes.{Consumes-nil, Keeps-refl}}, std.specs.Io.KnownBytes.Keeps, clap.specs.Walk.{Row, Text}}
 use Rattle.{clap.specs.Words.{first_of, one_of}, war_types.specs.{declared.settings.RawSettings.RawSettings, declared.settings.SettingsFault.SettingsFault, Settings.settings_of}}
 use Rattle.koth_words.specs.{Settings.{IsGiven, base_in, chosen_in, over, settings_in}, Sources.{Place, input_name, is_input as is_dash, place, place_named, places_named}, Words.{AsksBy, IsHelp, IsRefusal, draws_seed, given_in, has_flag, text_or_none, view_in}}
 use Rattle.{koth_words.specs.{declared.settings.{Chosen.Chosen, Given.Given}, declared.requests.NoRequest.NoRequest}}
-use Rattle.koth_words.specs.{declared.requests.Request.Request, declared.requests.Request.TheVariants.{Asm, Check, Fight, Create, Submit, SubmitTo, Show, ShowTo, Serve, Session, Audit, Migrate, Page, Replay, Trace, Try, Copy, Reseed, Rank}}
-use Rattle.{koth_words.specs.{declared.requests.Source.Source, declared.requests.View.View}, koth_commands.specs.{Answer.{AnswerParts, EndsGiven}, Asm.{EndsAsmFrom, IsDoneFrom, status_of}}}
+use Rattle.koth_words.specs.{declared.requests.Request.Request, declared.requests.Request.TheVariants.{Asm, Check, Fight, Create, Submit, SubmitTo, Show, ShowTo, Serve, Session, Audit, Migrate, Page, Replay, Trace, Try, Copy, Reseed, Rank, Many, Join, Explain}}
+use Rattle.{koth_words.specs.{declared.requests.Source.Source, declared.requests.View.View}, koth_commands.specs.{Answer.{AnswerParts, EndsGiven}, Asm.{EndsAsmFrom, IsDoneFrom, Wanted, status_of, wanted_of}, Kinds.EndsExplain}}
 use Rattle.koth_commands.specs.{Check.{EndsCheck, EndsCheckUnder, input_next}, Report.{Manner, manner_of, status_by}}
-use Rattle.{war_types.specs.{Warrior.WarriorParts, declared.fault.AsmFault.AsmFault}, redcode_asm.specs.Assembly.assembly, koth_commands.proofs.Checks.none_checked, koth_server.proofs.Statuses.{IsNone, delivered}}
+use Rattle.{war_types.specs.{Warrior.WarriorParts, declared.fault.AsmFault.AsmFault}, redcode_asm.specs.Assembly.assembly, koth_commands.proofs.Checks.none_checked, koth_server.proofs.Statuses.{IsNone, delivered, explained}}
 use Rattle.koth_commands.specs.{Streams.{From, Streams, TakesSome, at_input, is_input, streams, unread}, Trouble.{Tells, no_memory}, declared.status.Status.{Status, TheVariants.{NoMemory, WordFault}}}
 use Rattle.koth_commands.proofs.Told.{kept_part, writes_nothing}
 use Rattle.koth_keeping.specs.{Answers.{Answers, AnswersGiven, Ends, Outcome, SaysLine}, Created.{MayCreate, SaysCreated}, Audit.SaysAudit, Copies.{MayReseed, SaysCopied}, Migration.migrated_line, Seed.seed_hint}
-use Rattle.koth_hills.specs.{Hills.{AfterNote, EndsSource, SaysReply, SaysShown, TellsNote, sight_of}, Page.SaysPage, Trials.SaysTrial}
-use Rattle.koth_server.specs.{Serving.{EndsMade, EndsServe, EndsService, TellsServeFault, listening_line}, Session.EndsOnFile, Run.{CommandEnds, SessionEnds, EndsRequest, EndsRequestUnder, EndsHelp, EndsWithout, AreTraced, AreWatched, FightEnds, RankEnds, ReplayEnds, ShowEnds, SubmitEnds, TraceEnds, manner_in, sight_in, viewed}, Settled.{AreSettled, EndsBy, EndsSettled, EndsUnderGiven, TellsNoHill, names_hill}}
+use Rattle.koth_hills.specs.{Hills.{AfterNote, EndsSource, SaysReply, SaysShown, TellsNote, sight_of}, Page.SaysPage, Trials.EndsTrial}
+use Rattle.koth_server.specs.{Serving.{EndsMade, EndsServe, EndsService, TellsServeFault, listening_line}, Session.EndsOnFile, Run.{CommandEnds, SessionEnds, EndsRequest, EndsRequestUnder, EndsHelp, EndsWithout, AreTraced, AreWatched, FoughtEnds, RankEnds, RankedEnds, ReplayEnds, ShowEnds, SubmitEnds, TraceEnds, manner_in, sight_in, viewed, wanted_in}, Settled.{AreSettled, EndsBy, EndsSettled, EndsUnderGiven, TellsNoHill, names_hill}}
 use Rattle.koth_words.specs.declared.requests.{Fighters.Fighters, Form.Form, Ranking.Ranking, Round.Round}
-use Rattle.{koth_contests.specs.{Fight.{EndsFight, EndsFightUnder}, declared.meeting.Terms.Terms}, koth_rank.specs.Rank.{EndsRank, EndsRankUnder}, koth_remote.specs.Remote.MayShowTo}
+use Rattle.{koth_contests.specs.Fight.{EndsFight, EndsFightUnder}, koth_candidates.specs.Candidates.{EndsCandidates, EndsCandidatesUnder}, koth_rank.specs.{Join.{EndsJoin, Fails}, Rank.{EndsRank, EndsRankUnder, plan_of}, declared.plan.Plan.Plan}, koth_remote.specs.Remote.MayShowTo}
 use Rattle.koth_rounds.specs.{Asked.with_round, Replay.{EndsReplay, EndsReplayUnder}, Trace.{EndsTrace, EndsTraceUnder}}
 
 -- one fact or the other
@@ -36,9 +36,9 @@ EndsNamed name view given status before after =
     let shown = viewed (view_in given) view in
     let u = unread before in
     let v = unread after in
-    Either (bytes_eq name (codes "asm")) (EndsBy given (λ s. EndsAsmFrom (reads_in given) (settings_of s) status before after) status before after)
+    Either (bytes_eq name (codes "asm")) (EndsBy given (λ s. EndsAsmFrom (reads_in given) (wanted_in given) (settings_of s) status before after) status before after)
     (Either (bytes_eq name (codes "check")) (EndsBy given (λ s. EndsCheck (manner_in given) (places_named (codes "SOURCE") given) (settings_of s) status before after) status before after)
-    (Either (bytes_eq name (codes "fight")) (EndsBy given (λ s. FightEnds given shown (settings_of s) status u v) status before after)
+    (Either (bytes_eq name (codes "fight")) (EndsBy given (λ s. FoughtEnds given shown (settings_of s) status u v) status before after)
     (Either (bytes_eq name (codes "create")) (EndsBy given (λ s. Ends (MayCreate (has_flag (codes "draw-seed") given) s) status u v) status before after)
     (Either (bytes_eq name (codes "submit")) (SubmitEnds view given (reads_in given) status before after)
     (Either (bytes_eq name (codes "show")) (ShowEnds view given status u v)
@@ -49,10 +49,11 @@ EndsNamed name view given status before after =
     (Either (bytes_eq name (codes "session")) (AfterNote (SessionEnds given status) before after)
     (Either (bytes_eq name (codes "replay")) (EndsBy given (λ s. ReplayEnds given (settings_of s) status u v) status before after)
     (Either (bytes_eq name (codes "trace")) (EndsBy given (λ s. TraceEnds given (settings_of s) status u v) status before after)
-    (Either (bytes_eq name (codes "try")) (AfterNote (EndsSource (reads_in given) (SaysTrial shown) status) before after)
+    (Either (bytes_eq name (codes "try")) (AfterNote (EndsTrial (reads_in given) (first_of (codes "define") given) shown status) before after)
     (Either (bytes_eq name (codes "copy")) (AfterNote (Ends (Answers (SaysCopied (has_flag (codes "audit") given))) status) u v)
     (Either (bytes_eq name (codes "reseed")) (AfterNote (Ends MayReseed status) u v)
-    (Either (bytes_eq name (codes "rank")) (EndsBy given (λ s. RankEnds given shown (settings_of s) status u v) status before after) ⊤))))))))))))))))
+    (Either (bytes_eq name (codes "rank")) (RankedEnds given shown status before after)
+    (Either (bytes_eq name (codes "explain")) (EndsExplain (first_of (codes "KIND") given) status u v) ⊤)))))))))))))))))
 
 -- ---- a request: the command that the arguments name ended so, under the settings that they give
 
@@ -110,11 +111,14 @@ module _ (view : View) (e : Text × List Row) (status : Status) (before after : 
   Under request s = CommandEnds s view request status before after
 
   named : (request : Request) → AsksBy (Some e) request → EndsRequest view request status before after → Carries e.0
-  named (Asm given source) asks ends = subst Carries (sym asks.0)
-      (by_words e.1 given (Under (Asm given source)) (λ s. EndsAsmFrom (reads_in e.1) (settings_of s) status before after) status before after asks.1
-      (λ s ended. subst (λ b. EndsAsmFrom b (settings_of s) status before after) (same_source source e.1 asks.2) ended) ends.0)
+  named (Asm given wanted) asks ends =
+      let same : wanted_of wanted ≡ wanted_in e.1 = λ i. record { define = asks.3 i; listing = asks.4 i } in
+      subst Carries (sym asks.0)
+      (by_words e.1 given (Under (Asm given wanted)) (λ s. EndsAsmFrom (reads_in e.1) (wanted_in e.1) (settings_of s) status before after) status before after asks.1
+      (λ s ended. subst (λ b. EndsAsmFrom b (wanted_in e.1) (settings_of s) status before after) (same_source wanted.source e.1 asks.2)
+      (subst (λ w. EndsAsmFrom (is_input wanted.source) w (settings_of s) status before after) same ended)) ends.0)
   named (Check given checked) asks ends =
-      let manner : manner_of checked ≡ manner_in e.1 = λ i. record { form = asks.2.form i; warnings = asks.2.warnings i; deny = asks.2.deny i } in
+      let manner : manner_of checked ≡ manner_in e.1 = λ i. record { form = asks.2.form i; warnings = asks.2.warnings i; deny = asks.2.deny i; define = asks.2.define i } in
       let places = places_named (codes "SOURCE") e.1 in
       subst Carries (sym asks.0)
       (by_words e.1 given (Under (Check given checked))
@@ -122,8 +126,14 @@ module _ (view : View) (e : Text × List Row) (status : Status) (before after : 
       (λ s ended. subst (λ m. EndsCheck m places (settings_of s) status before after) manner
       (subst (λ l. EndsCheck (manner_of checked) l (settings_of s) status before after) asks.2.files ended)) ends.0)
   named (Fight given files) asks ends = subst Carries (sym asks.0)
-      (by_words e.1 given (Under (Fight given files)) (λ s. FightEnds e.1 (viewed (view_in e.1) view) (settings_of s) status (unread before) (unread after)) status before after asks.1
-      (λ s ended. inl (files, asks.2, subst (λ v. EndsFight files (viewed v view) (settings_of s) status (unread before) (unread after)) asks.2.view ended)) ends.0)
+      (by_words e.1 given (Under (Fight given files)) (λ s. FoughtEnds e.1 (viewed (view_in e.1) view) (settings_of s) status (unread before) (unread after)) status before after asks.1
+      (λ s ended. (
+        (λ one. inl (files, asks.2, subst (λ v. EndsFight files (viewed v view) (settings_of s) status (unread before) (unread after)) asks.2.view ended)),
+        (λ many. absurd (true≢false (sym many ∙ asks.3))),
+      )) ends.0)
+  named (Many given candidates) asks ends = subst Carries (sym asks.0)
+      (by_words e.1 given (Under (Many given candidates)) (λ s. FoughtEnds e.1 (viewed (view_in e.1) view) (settings_of s) status (unread before) (unread after)) status before after asks.1
+      (λ s ended. ((λ one. absurd (true≢false (sym asks.3 ∙ one))), (λ many. inl (candidates, asks.2, ended)))) ends.0)
   named (Create given creation) asks ends = subst Carries (sym asks.0)
       (by_words e.1 given (Under (Create given creation)) (λ s. Ends (MayCreate (has_flag (codes "draw-seed") e.1) s) status (unread before) (unread after)) status before after asks.1
       (λ s ended. subst (λ d. Ends (MayCreate d s) status (unread before) (unread after)) asks.4 ended) ends.0)
@@ -133,16 +143,16 @@ module _ (view : View) (e : Text × List Row) (status : Status) (before after : 
   named (SubmitTo given sent) asks ends = subst Carries (sym asks.0)
       (λ here. absurd (true≢false (sym asks.1 ∙ here)))
   named (Show shown) asks ends =
-      let same : sight_of shown ≡ sight_in e.1 = λ i. record { matches = asks.3 i; settings = asks.4 i; with_seed = asks.5 i } in
+      let same : sight_of shown ≡ sight_in e.1 = λ i. record { matches = asks.3 i; settings = asks.4 i; with_seed = asks.5 i; entry = asks.6 i } in
       subst Carries (sym asks.0) (
-        (λ here. subst (λ v. AfterNote (Ends (Answers (SaysShown (viewed v view) (sight_in e.1))) status) (unread before) (unread after)) asks.6
+        (λ here. subst (λ v. AfterNote (Ends (Answers (SaysShown (viewed v view) (sight_in e.1))) status) (unread before) (unread after)) asks.7
             (subst (λ m. AfterNote (Ends (Answers (SaysShown (viewed shown.view view) m)) status) (unread before) (unread after)) same ends.0.1)),
         (λ there. absurd (true≢false (sym there ∙ asks.1))),
       )
   named (ShowTo shown) asks ends = subst Carries (sym asks.0)
       ((λ here. absurd (true≢false (sym asks.1 ∙ here))), (λ there. ends.0.1))
   named (Serve given service) asks ends =
-      subst Carries (sym asks.0) (subst (λ d. AfterNote (EndsServe d (settings_in e.1) status) (unread before) (unread after)) asks.16
+      subst Carries (sym asks.0) (subst (λ d. AfterNote (EndsServe d (settings_in e.1) status) (unread before) (unread after)) asks.17
       (subst (λ s. AfterNote (EndsServe service.draw_seed s status) (unread before) (unread after)) asks.1 ends.0.1))
   named (Session session) asks ends = subst Carries (sym asks.0)
       (subst (λ h. AfterNote (EndsOnFile h status) before after) asks.1 ends.0.1)
@@ -151,23 +161,37 @@ module _ (view : View) (e : Text × List Row) (status : Status) (before after : 
   named (Migrate files) asks ends = subst Carries (sym asks.0) ends.0.1
   named (Page file) asks ends = subst Carries (sym asks.0) ends.0.1
   named (Replay given watched) asks ends =
-      let are : AreWatched e.1 watched = record { older = asks.2; younger = asks.3; round = asks.4; page = asks.5 } in
+      let are : AreWatched e.1 watched = record { older = asks.2; younger = asks.3; round = asks.4; page = asks.5; define = asks.6 } in
       subst Carries (sym asks.0)
       (by_words e.1 given (Under (Replay given watched)) (λ s. ReplayEnds e.1 (settings_of s) status (unread before) (unread after)) status before after asks.1
       (λ s ended. inl (watched, are, ended)) ends.0)
   named (Trace given traced) asks ends =
-      let are : AreTraced e.1 traced = record { older = asks.2; younger = asks.3; round = asks.4; last = asks.5; form = asks.6 } in
+      let are : AreTraced e.1 traced = record { older = asks.2; younger = asks.3; round = asks.4; last = asks.5; form = asks.6; define = asks.7 } in
       subst Carries (sym asks.0)
       (by_words e.1 given (Under (Trace given traced)) (λ s. TraceEnds e.1 (settings_of s) status (unread before) (unread after)) status before after asks.1
       (λ s ended. inl (traced, are, ended)) ends.0)
-  named (Try files) asks ends = subst Carries (sym asks.0)
-      (subst (λ b. AfterNote (EndsSource b (SaysTrial (viewed (view_in e.1) view)) status) before after) (same_source files.source e.1 asks.2)
-      (subst (λ v. AfterNote (EndsSource (is_input files.source) (SaysTrial (viewed v view)) status) before after) asks.3 ends.0.1))
+  named (Try files define) asks ends =
+      let given = first_of (codes "define") e.1 in
+      subst Carries (sym asks.0)
+      (subst (λ b. AfterNote (EndsTrial b given (viewed (view_in e.1) view) status) before after) (same_source files.source e.1 asks.2)
+      (subst (λ v. AfterNote (EndsTrial (is_input files.source) given (viewed v view) status) before after) asks.3
+      (subst (λ d. AfterNote (EndsTrial (is_input files.source) d (viewed files.view view) status) before after) asks.4 ends.0.1)))
   named (Copy files) asks ends = subst Carries (sym asks.0) (subst (λ a. AfterNote (Ends (Answers (SaysCopied a)) status) (unread before) (unread after)) asks.3 ends.0.1)
   named (Reseed files) asks ends = subst Carries (sym asks.0) ends.0.1
-  named (Rank given ranking) asks ends = subst Carries (sym asks.0)
-      (by_words e.1 given (Under (Rank given ranking)) (λ s. RankEnds e.1 (viewed (view_in e.1) view) (settings_of s) status (unread before) (unread after)) status before after asks.1
-      (λ s ended. inl (ranking, asks.2, subst (λ v. EndsRank ranking (viewed v view) (settings_of s) status (unread before) (unread after)) asks.2.view ended)) ends.0)
+  named (Rank given ranking) asks ends = subst Carries (sym asks.0) (
+    (λ field. by_words e.1 given (Under (Rank given ranking)) (λ s. RankEnds e.1 (viewed (view_in e.1) view) (settings_of s) status (unread before) (unread after)) status before after asks.1
+        (λ s ended. inl (ranking, asks.2, subst (λ v. EndsRank ranking (viewed v view) (settings_of s) status (unread before) (unread after)) asks.2.view ended)) ends.0),
+    (λ parts. absurd (true≢false (sym parts ∙ asks.3))),
+  )
+  named (Join joined) asks ends = subst Carries (sym asks.0) (
+    (λ field. absurd (true≢false (sym asks.2 ∙ field))),
+    (λ parts. inl (
+      joined,
+      asks.1,
+      subst (λ v. EndsJoin (viewed v view) (length joined.parts.items) status before.output after.output before.errors after.errors) asks.1.view ends.0.1,
+    )),
+  )
+  named (Explain kind) asks ends = subst Carries (sym asks.0) (subst (λ k. EndsExplain k status (unread before) (unread after)) asks.1 ends.0.1)
 
 pub carried : (view : View) (entered : Option (Text × List Row)) (request : Request) (status : Status) (before after : Streams) (name : Text)
     → AsksBy entered request → EndsRequest view request status before after → option_map (λ e. e.0) entered ≡ Some name
@@ -180,17 +204,17 @@ status_none : (outcome : Result WarriorParts AsmFault) (status : Status) → sta
 status_none (Ok warrior) status is word = absurd (cc)
 status_none (Err fault) status is word = absurd (cc)
 
-assembled_none : (of_input : Bool) (r : Result RawSettings SettingsFault) (i j : Option (List ℕ)) (done : Outcome) → IsDoneFrom of_input r i j done → IfOk done IsNone
-assembled_none true (Ok s) i j (Ok answer) is = status_none (assembly s is.source) answer.status is.comes.status
-assembled_none false (Ok s) i j (Ok answer) is = status_none (assembly s is.0.source) answer.status is.0.comes.status
-assembled_none of_input (Err fault) i j (Ok answer) is = absurd is
-assembled_none of_input r i j (Err trouble) is = tt
+assembled_none : (of_input : Bool) (wanted : Wanted) (r : Result RawSettings SettingsFault) (i j : Option (List ℕ)) (done : Outcome) → IsDoneFrom of_input wanted r i j done → IfOk done IsNone
+assembled_none true wanted (Ok s) i j (Ok answer) is = status_none (assembly s is.text) answer.status is.comes.status
+assembled_none false wanted (Ok s) i j (Ok answer) is = status_none (assembly s is.0.text) answer.status is.0.comes.status
+assembled_none of_input wanted (Err fault) i j (Ok answer) is = absurd is
+assembled_none of_input wanted r i j (Err trouble) is = tt
 
 -- `asm` never ends as at a fault of the arguments
-pub asm_no_word : (of_input : Bool) (r : Result RawSettings SettingsFault) (status : Status) (before after : Streams) → EndsAsmFrom of_input r status before after
-    → status ≢ WordFault
-asm_no_word of_input r status before after (done, is, sent) =
-    delivered done status before.output after.output before.errors after.errors (assembled_none of_input r before.input after.input done is) sent
+pub asm_no_word : (of_input : Bool) (wanted : Wanted) (r : Result RawSettings SettingsFault) (status : Status) (before after : Streams)
+    → EndsAsmFrom of_input wanted r status before after → status ≢ WordFault
+asm_no_word of_input wanted r status before after (done, is, sent) =
+    delivered done status before.output after.output before.errors after.errors (assembled_none of_input wanted r before.input after.input done is) sent
 
 given_word : (ends : RawSettings → Status → Streams → Streams → Type 0) (r : Result RawSettings SettingsFault) (before after : Streams)
     → ((s : RawSettings) → ends s WordFault before after → ⊥) → EndsGiven ends r WordFault before after → ⊥
@@ -231,28 +255,49 @@ never_refused is = absurd (cc)
 never_lost : WordFault ≡ NoMemory → ⊥
 never_lost is = absurd (cc)
 
-rank_word : (s : RawSettings) (terms : Terms) (words : List Source) (o p e f : Option (List ℕ)) → EndsRankUnder s terms words WordFault o p e f → ⊥
-rank_word s terms words o p e f (inl ranked) = elim ranked.2 [ inl ends ↦ ends | inr many ↦ never_refused many.1 ]
-rank_word s terms words o p e f (inr memory) = never_lost memory.0
+rank_word : (s : RawSettings) (plan : Plan) (words : List Source) (o p e f : Option (List ℕ)) → EndsRankUnder s plan words WordFault o p e f → ⊥
+rank_word s plan words o p e f (inl ranked) = elim ranked.2 [ inl ends ↦ ends | inr many ↦ never_refused many.1 ]
+rank_word s plan words o p e f (inr memory) = never_lost memory.0
 
 pub rank_no_word : (ranking : Ranking) (view : View) (r : Result RawSettings SettingsFault) (status : Status) (before after : Streams)
     → EndsRank ranking view r status before after → status ≢ WordFault
 rank_no_word ranking view r status before after ends is =
-    given_word (λ s end u v. EndsRankUnder s (record { both = ranking.both; view = view }) ranking.field.items end u.output v.output u.errors v.errors) r before after
-    (λ s ended. rank_word s (record { both = ranking.both; view = view }) ranking.field.items before.output after.output before.errors after.errors ended)
+    given_word (λ s end u v. EndsRankUnder s (plan_of ranking view) ranking.field.items end u.output v.output u.errors v.errors) r before after
+    (λ s ended. rank_word s (plan_of ranking view) ranking.field.items before.output after.output before.errors after.errors ended)
     (subst (λ t. EndsRank ranking view r t before after) is ends)
 
-pub replay_no_word : (round : Round) (named : Bool) (r : Result RawSettings SettingsFault) (status : Status) (before after : Streams)
-    → EndsReplay round named r status before after → status ≢ WordFault
-replay_no_word round named r status before after ends is =
-    given_word (λ s end u v. EndsReplayUnder s round named end u.output v.output u.errors v.errors) (with_round round r) before after (λ s ended. ended)
-    (subst (λ t. EndsReplay round named r t before after) is ends)
+candidates_word : (s : RawSettings) (words : List Source) (o p e f : Option (List ℕ)) → EndsCandidatesUnder s words WordFault o p e f → ⊥
+candidates_word s words o p e f (inl (files, are, inl (opponents, field, (d, keeps, (i, (j, ends)))))) = ends
+candidates_word s words o p e f (inl (files, are, inr none)) = elim none.0 [ inl refused ↦ never_refused refused | inr lost ↦ never_lost lost ]
+candidates_word s words o p e f (inr none) = elim none.0 [ inl refused ↦ never_refused refused | inr lost ↦ never_lost lost ]
 
-pub trace_no_word : (round : Round) (last : Option ℕ) (form : Form) (r : Result RawSettings SettingsFault) (status : Status) (before after : Streams)
-    → EndsTrace round last form r status before after → status ≢ WordFault
-trace_no_word round last form r status before after ends is =
-    given_word (λ s end u v. EndsTraceUnder s round last form end u.output v.output u.errors v.errors) (with_round round r) before after (λ s ended. ended)
-    (subst (λ t. EndsTrace round last form r t before after) is ends)
+pub candidates_no_word : (words : List Source) (r : Result RawSettings SettingsFault) (status : Status) (before after : Streams)
+    → EndsCandidates words r status before after → status ≢ WordFault
+candidates_no_word words r status before after ends is =
+    given_word (λ s end u v. EndsCandidatesUnder s words end u.output v.output u.errors v.errors) r before after
+    (λ s ended. candidates_word s words before.output after.output before.errors after.errors ended)
+    (subst (λ t. EndsCandidates words r t before after) is ends)
+
+pub join_no_word : (view : View) (count : ℕ) (status : Status) (o p e f : Option (List ℕ)) → EndsJoin view count status o p e f → status ≢ WordFault
+join_no_word view count status o p e f (inl joined) is = absurd (cc)
+join_no_word view count status o p e f (inr (inl part)) is = absurd (subst (λ t. Fails t e f) is part.1)
+join_no_word view count status o p e f (inr (inr none)) is = absurd (subst (λ t. Fails t e f) is none.1)
+
+pub explain_no_word : (name : Option (List ℕ)) (status : Status) (before after : Streams) → EndsExplain name status before after → status ≢ WordFault
+explain_no_word name status before after (done, is, sent) =
+    delivered done status before.output after.output before.errors after.errors (explained name done is) sent
+
+pub replay_no_word : (round : Round) (defines named : Bool) (r : Result RawSettings SettingsFault) (status : Status) (before after : Streams)
+    → EndsReplay round defines named r status before after → status ≢ WordFault
+replay_no_word round defines named r status before after ends is =
+    given_word (λ s end u v. EndsReplayUnder s round defines named end u.output v.output u.errors v.errors) (with_round round r) before after (λ s ended. ended)
+    (subst (λ t. EndsReplay round defines named r t before after) is ends)
+
+pub trace_no_word : (round : Round) (defines : Bool) (last : Option ℕ) (form : Form) (r : Result RawSettings SettingsFault) (status : Status) (before after : Streams)
+    → EndsTrace round defines last form r status before after → status ≢ WordFault
+trace_no_word round defines last form r status before after ends is =
+    given_word (λ s end u v. EndsTraceUnder s round defines last form end u.output v.output u.errors v.errors) (with_round round r) before after (λ s ended. ended)
+    (subst (λ t. EndsTrace round defines last form r t before after) is ends)
 
 -- a request that is asked for ends as its command does
 pub request_ends : (settings : RawSettings) (view : View) (request asked : Request) (status : Status) (before after : Streams) → request ≡ asked
@@ -277,6 +322,13 @@ module _ (i o p e f : Option (List ℕ)) (kept : Keeps o p) (told : Tells no_mem
   source_no_memory true Says = record { outcome = Err no_memory; may = (refl, ([], Consumes-nil i)); delivered = (kept, told) }
   source_no_memory false Says = record { outcome = Err no_memory; may = ((refl, ([], tt)), Keeps-refl i); delivered = (kept, told) }
 
+  trial_no_memory : (of_input : Bool) (define : Option (List ℕ)) (shown : View) → EndsTrial of_input define shown NoMemory (streams i o e) (streams i p f)
+  trial_no_memory true define shown = record { outcome = Err no_memory; may = (refl, ([], Consumes-nil i)); delivered = (kept, told) }
+  trial_no_memory false define shown = record { outcome = Err no_memory; may = ((refl, ([], tt)), Keeps-refl i); delivered = (kept, told) }
+
+  explain_no_memory : (name : Option (List ℕ)) → EndsExplain name NoMemory (streams i o e) (streams i p f)
+  explain_no_memory name = (Err no_memory, inl refl, (kept, told))
+
   fault_no_memory : TellsServeFault NoMemory (streams i o e) (streams i p f)
   fault_no_memory = record {
     trouble = no_memory;
@@ -297,10 +349,10 @@ create_no_memory false given = make_no_memory (seed_hint given.seed) given (sett
 create_no_memory true given = inr refl
 
 module _ (i o p e f : Option (List ℕ)) (kept : Keeps o p) (told : Tells no_memory NoMemory e f) where
-  asm_no_memory : (of_input : Bool) (r : Result RawSettings SettingsFault) → EndsAsmFrom of_input r NoMemory (streams i o e) (streams i p f)
-  asm_no_memory true (Ok s) = (Err no_memory, (inr refl, ([], Consumes-nil i)), (kept, told))
-  asm_no_memory false (Ok s) = (Err no_memory, ((inr refl, ([], tt)), Keeps-refl i), (kept, told))
-  asm_no_memory of_input (Err fault) = (Err no_memory, (Keeps-refl i, inr refl), (kept, told))
+  asm_no_memory : (of_input : Bool) (wanted : Wanted) (r : Result RawSettings SettingsFault) → EndsAsmFrom of_input wanted r NoMemory (streams i o e) (streams i p f)
+  asm_no_memory true wanted (Ok s) = (Err no_memory, inl (inr refl, ([], Consumes-nil i)), (kept, told))
+  asm_no_memory false wanted (Ok s) = (Err no_memory, (inl (inr refl, ([], tt)), Keeps-refl i), (kept, told))
+  asm_no_memory of_input wanted (Err fault) = (Err no_memory, (Keeps-refl i, inr refl), (kept, told))
 
   none_taken : (of_input : Bool) → From of_input TakesSome i i
   none_taken true = ([], Consumes-nil i)
@@ -346,9 +398,9 @@ module _ (i o p e f : Option (List ℕ)) (kept : Keeps o p) (told : Tells no_mem
       let v = streams None p f in
       let none : TellsNote e e = inl (Keeps-refl e) in
       let may = may_no_memory None o p e f kept told in
-      either (bytes_eq name (codes "asm")) _ _ (by_no_memory given (λ s. EndsAsmFrom of_input (settings_of s) NoMemory (streams i o e) (streams i p f)) (λ s. asm_no_memory of_input (settings_of s)))
+      either (bytes_eq name (codes "asm")) _ _ (by_no_memory given (λ s. EndsAsmFrom of_input (wanted_in given) (settings_of s) NoMemory (streams i o e) (streams i p f)) (λ s. asm_no_memory of_input (wanted_in given) (settings_of s)))
       (either (bytes_eq name (codes "check")) _ _ (by_no_memory given (λ s. EndsCheck how places (settings_of s) NoMemory (streams i o e) (streams i p f)) (λ s. check_no_memory how places (settings_of s)))
-      (either (bytes_eq name (codes "fight")) _ _ (by_no_memory given (λ s. FightEnds given shown (settings_of s) NoMemory u v) (λ s. inr (kept, told)))
+      (either (bytes_eq name (codes "fight")) _ _ (by_no_memory given (λ s. FoughtEnds given shown (settings_of s) NoMemory u v) (λ s. ((λ one. inr (kept, told)), (λ many. inr (kept, told)))))
       (either (bytes_eq name (codes "create")) _ _ (by_no_memory given (λ s. Ends (MayCreate drawn s) NoMemory u v) (λ s. may (MayCreate drawn s) (create_no_memory drawn s)))
       (either (bytes_eq name (codes "submit")) _ _ (λ here. (e, none, source_no_memory i o p e f kept told of_input (SaysReply shown)))
       (either (bytes_eq name (codes "show")) _ _ ((λ here. (e, none, may (Answers (SaysShown shown (sight_in given))) refl)), (λ there. may MayShowTo tt))
@@ -359,10 +411,12 @@ module _ (i o p e f : Option (List ℕ)) (kept : Keeps o p) (told : Tells no_mem
       (either (bytes_eq name (codes "session")) _ _ (e, none, session_no_memory (text_or_none (first_of (codes "FILE") given)))
       (either (bytes_eq name (codes "replay")) _ _ (by_no_memory given (λ s. ReplayEnds given (settings_of s) NoMemory u v) (λ s. inr (kept, told)))
       (either (bytes_eq name (codes "trace")) _ _ (by_no_memory given (λ s. TraceEnds given (settings_of s) NoMemory u v) (λ s. inr (kept, told)))
-      (either (bytes_eq name (codes "try")) _ _ (e, none, source_no_memory i o p e f kept told of_input (SaysTrial shown))
+      (either (bytes_eq name (codes "try")) _ _ (e, none, trial_no_memory i o p e f kept told of_input (first_of (codes "define") given) shown)
       (either (bytes_eq name (codes "copy")) _ _ (e, none, may (Answers (SaysCopied (has_flag (codes "audit") given))) refl)
       (either (bytes_eq name (codes "reseed")) _ _ (e, none, may MayReseed tt)
-      (either (bytes_eq name (codes "rank")) _ ⊤ (by_no_memory given (λ s. RankEnds given shown (settings_of s) NoMemory u v) (λ s. inr (kept, told))) tt))))))))))))))))
+      (either (bytes_eq name (codes "rank")) _ _
+      ((λ field. by_no_memory given (λ s. RankEnds given shown (settings_of s) NoMemory u v) (λ s. inr (kept, told))), (λ parts. inr (kept, told)))
+      (either (bytes_eq name (codes "explain")) _ ⊤ (explain_no_memory None o p e f kept told (first_of (codes "KIND") given)) tt)))))))))))))))))
 
 module _ (i o p e f : Option (List ℕ)) (status : Status) where
   pub without : (name : Text) (view : View) (given : List Row) (none : NoRequest) → none ≡ NoRequest.Memory

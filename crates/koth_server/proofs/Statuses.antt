@@ -1,10 +1,10 @@
 -- No answer and no fault ends as one of the arguments does.
 use Rattle.std.proofs.Common.{◌≡◌, ◌≢◌, ◌∙◌, ℕ, Bool, true, false, List, Option, Result, Ok, Err, None, Some, IfOk, sym, ap, inl, inr}
 use Rattle.war_types.specs.{declared.settings.{RawSettings.RawSettings, SettingsFault.SettingsFault}, Settings.settings_of}
-use Rattle.{koth_hill.specs.declared.untrue.Untrue.Untrue, hill_store.specs.declared.reply.Reply.Reply}
-use Rattle.koth_commands.specs.{Answer.{AnswerParts, Delivers, answer_parts}, Streams.From, Trouble.fault_status, declared.{status.Status.Status, trouble.{Fault.Fault}}}
+use Rattle.{koth_hill.specs.{Kept.Kept, declared.untrue.Untrue.Untrue}, hill_store.specs.declared.reply.Reply.Reply}
+use Rattle.koth_commands.specs.{Answer.{AnswerParts, Delivers, answer_parts}, Kinds.IsExplained, Streams.From, Trouble.fault_status, declared.{status.Status.Status, trouble.{Fault.Fault}}}
 use Rattle.koth_keeping.specs.{Answers.{Answers, AnswersGiven, Outcome, SaysLine}, Audit.{SaysAudit, audit_answer}, Copies.{MayReseed, SaysCopied}, Migration.migrated_line, Created.{MayCreate, SaysCreated}, Seed.seed_hint}
-use Rattle.{koth_words.specs.declared.requests.View.View, koth_hills.specs.{Hills.{AnswersSource, SaysReply, SaysShown, Sight}, Trials.SaysTrial, Page.SaysPage, ReplyStatus.reply_status}, koth_remote.specs.Remote.{EndsAsReply, EndsAsTable, MayShowTo, MaySubmitTo}}
+use Rattle.{koth_words.specs.declared.requests.View.View, koth_hills.specs.{Hills.{AnswersSource, SaysReply, SaysSeen, SaysShown, Sight}, Trials.{AnswersTrial, SaysTrial}, Page.SaysPage, ReplyStatus.reply_status}, koth_remote.specs.Remote.{EndsAsReply, EndsAsTable, MayShowTo, MaySubmitTo}}
 
 pub never-words : (fault : Fault) → fault_status fault ≡ Status.WordFault → ⊥
 never-words (Fault.Settings fault) is = absurd (cc)
@@ -13,6 +13,10 @@ never-words Fault.Occupied is = absurd (cc)
 never-words Fault.NotAHill is = absurd (cc)
 never-words Fault.OldHill is = absurd (cc)
 never-words Fault.Damaged is = absurd (cc)
+never-words Fault.NoEntry is = absurd (cc)
+never-words Fault.BadDefine is = absurd (cc)
+never-words Fault.NoEqu is = absurd (cc)
+never-words Fault.NoKind is = absurd (cc)
 never-words Fault.Stream is = absurd (cc)
 never-words Fault.Memory is = absurd (cc)
 
@@ -85,13 +89,28 @@ pub replied : (of_input : Bool) (view : View) (i j : Option (List ℕ)) (outcome
 replied of_input view i j outcome =
     from_source of_input (SaysReply view) i j outcome (λ source answer says. λ is. reply_none says.2 (sym says.4.2.ends ∙ is))
 
-pub tried : (of_input : Bool) (view : View) (i j : Option (List ℕ)) (outcome : Outcome) → From of_input (λ u v. AnswersSource (SaysTrial view) u v outcome) i j
-    → IfOk outcome IsNone
-tried of_input view i j outcome =
-    from_source of_input (SaysTrial view) i j outcome (λ source answer says. λ is. reply_none says.1 (sym says.4.ends ∙ is))
+trial_none : (view : View) (source : List ℕ) (answer : AnswerParts) → SaysTrial view source answer → IsNone answer
+trial_none view source answer says is = reply_none says.1 (sym says.4.ends ∙ is)
+
+pub tried : (of_input : Bool) (define : Option (List ℕ)) (view : View) (i j : Option (List ℕ)) (outcome : Outcome)
+    → From of_input (λ u v. AnswersTrial define (SaysTrial view) u v outcome) i j → IfOk outcome IsNone
+tried true define view i j (Ok answer) (source, taken, (text, defined, says)) = trial_none view text answer says
+tried false define view i j (Ok answer) ((source, taken, (text, defined, says)), kept) = trial_none view text answer says
+tried of_input define view i j (Err trouble) may = tt
+
+seen : (entry : Option ℕ) (view : View) (sight : Sight) (hill : Kept) (answer : AnswerParts) → SaysSeen entry view sight hill answer → IsNone answer
+seen None view sight hill answer says = done _ _ answer says
+seen (Some entry) view sight hill answer says = done _ _ answer says.2
 
 pub shown : (view : View) (sight : Sight) (outcome : Outcome) → Answers (SaysShown view sight) outcome → IfOk outcome IsNone
-shown view sight = answers (SaysShown view sight) (λ answer says. done _ _ answer says.1)
+shown view sight = answers (SaysShown view sight) (λ answer says. seen sight.entry view sight says.0 answer says.1)
+
+done_status : (status : Status) → status ≡ Status.Done → status ≢ Status.WordFault
+done_status status done is = absurd (cc)
+
+pub explained : (name : Option (List ℕ)) (outcome : Outcome) → IsExplained name outcome → IfOk outcome IsNone
+explained name (Ok answer) (ends, explains, silent) = done_status answer.status ends
+explained name (Err trouble) may = tt
 
 pub paged : (outcome : Outcome) → Answers SaysPage outcome → IfOk outcome IsNone
 paged = answers SaysPage (λ answer says. done _ _ answer says.1)

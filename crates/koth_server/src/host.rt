@@ -114,7 +114,7 @@ where
         let now = Titles::of(self.alloc, hill);
         let before = self.titles.replace(Titles::new(self.alloc));
         self.log
-            .tell_answer(self.alloc, peer, &reply, &before, &now, errors);
+            .tell_answer(self.alloc, peer, reply, &before, &now, errors);
         self.titles.set(now);
     }
 

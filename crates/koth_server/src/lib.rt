@@ -9,7 +9,8 @@
 //!   a status;
 //! - `settled`: the settings under which a command is carried out;
 //! - `one_session`: one session over standard input and output;
-//! - `serve`: the service of a hill, `ports`: where it listens, and `log` and `ends`: what it reports;
+//! - `serve`: the service of a hill, `ports`: where it listens, and `log`: what it reports, in lines as `texts` or as
+//!   `objects` of a `report`, with the words of `ends`;
 //! - `pages`: the pages that browsers ask it for;
 //! - `titles`: those on the hill, as the log names them;
 //! - `host`: what it goes on with when its device failed.
@@ -29,13 +30,16 @@ mod arguments;
 mod ends;
 mod host;
 mod log;
+mod objects;
 mod one_session;
 mod pages;
 mod ports;
 mod program;
+mod report;
 mod serve;
 mod settled;
 mod sign;
+mod texts;
 mod titles;
 mod typed;
 

@@ -3,22 +3,19 @@
 
 ghost use Rattle.koth_commands.specs.Told.{WritesSome};
 
-use crate::ends::{end_text, unasked_text};
+use crate::report::{Answer, Report};
 use crate::titles::{Titled, Titles};
+use crate::{objects, texts};
 use hill_store::Reply;
 use jiff::Timestamp;
-use koth_commands::{name_text, write_whole};
+use koth_commands::write_whole;
 use koth_keeping::seed_hint;
 use koth_service::{Event, HowEnded, LogWrite, PeerEnd};
-use koth_session::line_of;
-use koth_words::Service;
+use koth_words::{Form, Service};
 use std::alloc::{AllocError, Allocator};
 use std::cell::Cell;
 use std::net::SocketAddr;
 use std::rt::Clock;
-
-/// Bytes of the first line of a request that a line of the log has at most.
-const SHOWN: usize = 200;
 
 /// What a line says of a seed that was drawn.
 const DRAWN: &str = "the seed of this hill was drawn, and only its file has it\n";
@@ -29,16 +26,19 @@ const DRAWN: &str = "the seed of this hill was drawn, and only its file has it\n
 pub struct Log<'r, R> {
     clock: &'r R,
     quiet: bool,
+    /// Lines for people, or objects.
+    form: Form,
     /// How many lines were dropped and not reported yet.
     dropped: Cell<u64>,
 }
 
 impl<'r, R: Clock> Log<'r, R> {
-    /// A log by this clock. A quiet log reports only devices that failed.
-    pub fn new(clock: &'r R, quiet: bool) -> Log<'r, R> {
+    /// A log by this clock, of lines in this form. A quiet log reports only devices that failed.
+    pub fn new(clock: &'r R, quiet: bool, form: Form) -> Log<'r, R> {
         Log {
             clock,
             quiet,
+            form,
             dropped: Cell::new(0),
         }
     }
@@ -56,18 +56,18 @@ impl<'r, R: Clock> Log<'r, R> {
         if self.quiet && !is_fault(event) {
             return;
         }
-        self.put(alloc, self.line(alloc, peer, event), errors);
+        self.put(alloc, &Report::Event(peer, event), errors);
     }
 
     /// Reports what a submission was answered, by the titles of those on the hill before it and of those there now,
     /// unless the log is quiet.
-    pub(crate) fn tell_answer<A: Allocator + Copy, E: LogWrite>(
+    pub(crate) fn tell_answer<'t, A: Allocator + Copy, E: LogWrite>(
         &self,
         alloc: A,
         peer: SocketAddr,
-        reply: &Reply,
-        before: &Titles<A>,
-        now: &Titles<A>,
+        reply: Reply,
+        before: &'t Titles<A>,
+        now: &'t Titles<A>,
         errors: &mut E,
     )
         ensures { WritesSome (E.contents errors.old) (E.contents errors.new) }
@@ -75,11 +75,17 @@ impl<'r, R: Clock> Log<'r, R> {
         if self.quiet {
             return;
         }
-        self.put(
-            alloc,
-            self.reply_line(alloc, peer, reply, before, now),
-            errors,
-        );
+        let whose = placed_in(reply, now);
+        let pushed = match whose {
+            Some(_) => before.missing_in(now),
+            None => None,
+        };
+        let answer = Answer {
+            reply,
+            whose,
+            pushed,
+        };
+        self.put(alloc, &Report::Answer(peer, answer), errors);
     }
 
     /// Reports that the hill of a service was created, and that its seed was drawn, or what it means if everybody knows
@@ -96,7 +102,11 @@ impl<'r, R: Clock> Log<'r, R> {
         if self.quiet {
             return;
         }
-        self.put(alloc, self.created_line(alloc, service), errors);
+        let created = Report::Created {
+            hill: service.hill,
+            is_shown: service.http.is_some(),
+        };
+        self.put(alloc, &created, errors);
         let hint = if service.draw_seed {
             DRAWN
         } else {
@@ -117,7 +127,7 @@ impl<'r, R: Clock> Log<'r, R> {
         let Some(address) = address else {
             return;
         };
-        self.put(alloc, self.address_line(alloc, address), errors);
+        self.put(alloc, &Report::Pages(address), errors);
     }
 
     /// Reports what there is to know of the seed of a hill, if there is anything.
@@ -126,25 +136,21 @@ impl<'r, R: Clock> Log<'r, R> {
     {
         match hint {
             "" => {}
-            hint => self.put(
-                alloc,
-                format!(in alloc; "{} {}", self.seconds(), hint),
-                errors,
-            ),
+            hint => self.put(alloc, &Report::Seed(hint), errors),
         }
     }
 
-    /// Writes a line if it can be written at once, and else drops it.
-    fn put<A: Allocator, E: LogWrite>(
+    /// Writes the line of a report if it can be written at once, and else drops it.
+    fn put<A: Allocator + Copy, E: LogWrite>(
         &self,
         alloc: A,
-        line: Result<String<A>, AllocError>,
+        report: &Report<'_, A>,
         errors: &mut E,
     )
         ensures { WritesSome (E.contents errors.old) (E.contents errors.new) }
     {
-        let is_put = match line {
-            Ok(line) => self.put_counted(alloc, line.as_bytes(), errors),
+        let is_put = match self.line(alloc, report) {
+            Ok(line) => self.put_counted(alloc, line.as_slice(), errors),
             Err(AllocError) => false,
         };
         if !is_put {
@@ -153,7 +159,12 @@ impl<'r, R: Clock> Log<'r, R> {
     }
 
     /// Writes a line after the count of those that were dropped before it, and returns whether it is written.
-    fn put_counted<A: Allocator, E: LogWrite>(&self, alloc: A, line: &[u8], errors: &mut E) -> bool
+    fn put_counted<A: Allocator + Copy, E: LogWrite>(
+        &self,
+        alloc: A,
+        line: &[u8],
+        errors: &mut E,
+    ) -> bool
         ensures { WritesSome (E.contents errors.old) (E.contents errors.new) }
     {
         self.put_count(alloc, errors) && put_line(line, errors)
@@ -161,121 +172,33 @@ impl<'r, R: Clock> Log<'r, R> {
 
     /// Writes how many lines were dropped, if some were. It returns whether that is written, or there is nothing to
     /// write.
-    fn put_count<A: Allocator, E: LogWrite>(&self, alloc: A, errors: &mut E) -> bool
+    fn put_count<A: Allocator + Copy, E: LogWrite>(&self, alloc: A, errors: &mut E) -> bool
         ensures { WritesSome (E.contents errors.old) (E.contents errors.new) }
     {
         let count = self.dropped.get();
         if count == 0 {
             return true;
         }
-        let Ok(line) = self.count_line(alloc, count) else {
+        let Ok(line) = self.line(alloc, &Report::Dropped(count)) else {
             return false;
         };
-        let is_put = put_line(line.as_bytes(), errors);
+        let is_put = put_line(line.as_slice(), errors);
         if is_put {
             self.dropped.set(0);
         }
         is_put
     }
 
-    fn count_line<A: Allocator>(&self, alloc: A, count: u64) -> Result<String<A>, AllocError> {
-        let what = if count == 1 { "line was" } else { "lines were" };
-        format!(in alloc; "{} {} {} dropped\n", self.seconds(), count, what)
-    }
-
-    /// The line of what happened: the time by the clock, the peer or the browser, and the event.
-    fn line<A: Allocator>(
+    /// The line of a report, after the time by the clock.
+    fn line<A: Allocator + Copy>(
         &self,
         alloc: A,
-        peer: SocketAddr,
-        event: Event<'_>,
-    ) -> Result<String<A>, AllocError> {
-        let what = match event {
-            Event::Connected => "connected",
-            Event::Ended(how) => end_text(how),
-            Event::Refused => "refused: as many peers of its address are connected as may be",
-            Event::Unasked(why) => unasked_text(why),
-            Event::Asked {
-                line,
-                status,
-                bytes,
-            } => return self.request_line(alloc, peer, line, status, bytes),
-        };
-        format!(in alloc; "{} {}: {}\n", self.seconds(), peer, what)
-    }
-
-    /// The line of a submission's reply. That of a warrior on the hill names it, and who was pushed off for it.
-    fn reply_line<A: Allocator + Copy>(
-        &self,
-        alloc: A,
-        peer: SocketAddr,
-        reply: &Reply,
-        before: &Titles<A>,
-        now: &Titles<A>,
-    ) -> Result<String<A>, AllocError> {
-        let line = line_of(reply);
-        let text = str::from_utf8(line.as_slice().trim_ascii_end()).unwrap_or("answered");
-        let Some(placed) = placed_in(reply, now) else {
-            return format!(in alloc; "{} {}: {}\n", self.seconds(), peer, text);
-        };
-        let title = placed.title.as_str();
-        match before.missing_in(now) {
-            None => format!(in alloc; "{} {}: {} {}\n", self.seconds(), peer, text, title),
-            Some(pushed) => format!(in alloc;
-                "{} {}: {} {}, pushed {} {}\n",
-                self.seconds(),
-                peer,
-                text,
-                title,
-                pushed.entry,
-                pushed.title.as_str()
-            ),
+        report: &Report<'_, A>,
+    ) -> Result<Vec<u8, A>, AllocError> {
+        match self.form {
+            Form::Text => Ok(texts::line(alloc, self.seconds(), report)?.into_bytes()),
+            Form::Json => objects::line(alloc, self.seconds(), report),
         }
-    }
-
-    /// The line of a browser's request, whose own first line is cut and escaped, and of its answer.
-    fn request_line<A: Allocator>(
-        &self,
-        alloc: A,
-        browser: SocketAddr,
-        line: &[u8],
-        status: &[u8],
-        bytes: usize,
-    ) -> Result<String<A>, AllocError> {
-        let shown = &line[..line.len().min(SHOWN)];
-        let rest = if line.len() > SHOWN { ".." } else { "" };
-        format!(in alloc;
-            "{} {}: asked \"{}\"{}: {}, {} bytes\n",
-            self.seconds(),
-            browser,
-            shown.escape_ascii(),
-            rest,
-            status.escape_ascii(),
-            bytes
-        )
-    }
-
-    /// The line of a hill that was created: its file, and what shows it to browsers if nothing does.
-    fn created_line<A: Allocator + Copy>(
-        &self,
-        alloc: A,
-        service: &Service<'_>,
-    ) -> Result<String<A>, AllocError> {
-        let pages = match service.http {
-            Some(_) => "",
-            None => "; --http PORT shows it to browsers",
-        };
-        let name = name_text(alloc, service.hill)?;
-        let hill = str::from_utf8(name.as_slice()).unwrap_or("a hill");
-        format!(in alloc; "{} created {}{}\n", self.seconds(), hill, pages)
-    }
-
-    fn address_line<A: Allocator>(
-        &self,
-        alloc: A,
-        address: SocketAddr,
-    ) -> Result<String<A>, AllocError> {
-        format!(in alloc; "{} pages at http://{}/\n", self.seconds(), address)
     }
 
     /// The time by the clock, in whole seconds; that of 1970 if the clock can't be read.
@@ -295,8 +218,8 @@ fn put_line<E: LogWrite>(line: &[u8], errors: &mut E) -> bool
 }
 
 /// The warrior that was placed by this reply, as it is on the hill now.
-fn placed_in<'t, A: Allocator + Copy>(reply: &Reply, now: &'t Titles<A>) -> Option<&'t Titled<A>> {
-    match *reply {
+fn placed_in<A: Allocator + Copy>(reply: Reply, now: &Titles<A>) -> Option<&Titled<A>> {
+    match reply {
         Reply::Placed { entry, .. } => now.of_entry(entry),
         _ => None,
     }

@@ -7,14 +7,16 @@ use crate::one_session::session;
 use crate::serve::serve;
 use crate::settled::settled;
 use hill_file::TryLock;
+use koth_candidates::fight_candidates;
 use koth_commands::asm::asm;
 use koth_commands::check::check;
+use koth_commands::kinds::explain_kind;
 use koth_commands::trouble::Trouble;
 use koth_commands::{Answer, Status, deliver, lines_text, write_whole};
 use koth_contests::fight::fight;
 use koth_hills::{perform_page, perform_show, perform_submit, perform_try, tell_lost_header};
 use koth_keeping::{perform_audit, perform_copy, perform_create, perform_migrate, perform_reseed};
-use koth_rank::rank;
+use koth_rank::{join, rank};
 use koth_remote::{perform_show_to, perform_submit_to};
 use koth_rounds::replay::replay;
 use koth_rounds::trace::trace;
@@ -139,8 +141,8 @@ where
         (streams (I.remaining input.new) (O.contents output.new) (E.contents errors.new)) }
 {
     let done = match *request {
-        Request::Asm(_, source) => {
-            return asm(rt, alloc, settings, source, input, output, errors);
+        Request::Asm(_, wanted) => {
+            return asm(rt, alloc, settings, wanted, input, output, errors);
         }
         Request::Check(_, ref checked) => {
             return check(rt, alloc, settings, checked, input, output, errors);
@@ -148,6 +150,14 @@ where
         Request::Fight(_, ref fighters) => {
             let view = viewed(fighters.view, view);
             return fight(rt, alloc, settings, fighters, view, input, output, errors);
+        }
+        Request::Many(_, ref candidates) => {
+            let opponents = candidates.opponents.as_slice();
+            return fight_candidates(rt, alloc, settings, opponents, input, output, errors);
+        }
+        Request::Join(ref joined) => {
+            let parts = joined.parts.as_slice();
+            return join(rt, alloc, parts, viewed(joined.view, view), output, errors);
         }
         Request::Rank(_, ref ranking) => {
             let view = viewed(ranking.view, view);
@@ -159,6 +169,7 @@ where
         Request::Trace(_, traced) => {
             return trace(rt, alloc, settings, traced, input, output, errors);
         }
+        Request::Explain(kind) => return explain_kind(alloc, kind, output, errors),
         Request::Serve(given, ref service) => {
             tell_lost_header(rt, alloc, service.hill, errors);
             return serve(rt, alloc, given, service, output, errors);
@@ -179,10 +190,10 @@ where
             return submit_elsewhere(rt, alloc, settings, sent, view, input, output, errors);
         }
         Request::ShowTo(shown) => perform_show_to(rt, alloc, shown, viewed(shown.view, view)),
-        Request::Try(files) => {
+        Request::Try(files, define) => {
             tell_lost_header(rt, alloc, files.hill, errors);
-            let view = viewed(files.view, view);
-            perform_try(rt, alloc, files.hill, files.source, view, input)
+            let (source, view) = (files.source, viewed(files.view, view));
+            perform_try(rt, alloc, files.hill, source, define, view, input)
         }
         Request::Show(shown) => {
             tell_lost_header(rt, alloc, shown.hill, errors);

@@ -102,7 +102,7 @@ where
         rt,
         alloc,
         path: service.hill,
-        log: Log::new(rt, service.quiet),
+        log: Log::new(rt, service.quiet, service.log_format),
         links: links_for(service.replays),
         title: service.title,
         door: None,

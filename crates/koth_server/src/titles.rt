@@ -3,11 +3,12 @@
 use koth_hill::{Hill, Member};
 use std::alloc::{AllocError, Allocator};
 
-/// A warrior on a hill, by its entry, and its name and its author as they are in a line of the log.
+/// A warrior on a hill, by its entry, its name and its author.
 #[derive(Drop)]
 pub(crate) struct Titled<A: Allocator> {
     pub(crate) entry: u64,
-    pub(crate) title: String<A>,
+    pub(crate) name: Vec<u8, A>,
+    pub(crate) author: Vec<u8, A>,
 }
 
 /// The warriors on a hill, or none if memory ran out.
@@ -71,15 +72,9 @@ fn titled_of<A: Allocator + Copy>(
     alloc: A,
     member: &Member<'_, A>,
 ) -> Result<Titled<A>, AllocError> {
-    let name = member.warrior.name().bytes();
-    let author = member.warrior.author().bytes();
-    let title = format!(in alloc;
-        "\"{}\" by \"{}\"",
-        name.escape_ascii(),
-        author.escape_ascii()
-    )?;
     Ok(Titled {
         entry: member.entry,
-        title,
+        name: Vec::from_slice(alloc, member.warrior.name().bytes())?,
+        author: Vec::from_slice(alloc, member.warrior.author().bytes())?,
     })
 }

@@ -12,11 +12,15 @@
 //! of equals the earlier first (`IsRanking`).
 #![tactic(auto)]
 
+mod joining;
 mod pairs;
+mod part_text;
 mod parts;
 mod ranking;
 mod standings;
 
+pub use joining::{NotTaken, join_part};
 pub use pairs::{Pair, Pairs};
+pub use part_text::{NoPart, PartHead, PartRead, Row, put_end, put_head, put_row, read_part};
 pub use parts::PairsOfPart;
 pub use standings::Standings;

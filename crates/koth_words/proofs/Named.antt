@@ -27,8 +27,8 @@ named app m words is has = ap (option_map (λ p. p.0)) (sym (found app m words i
 
 -- ---- words without fault name a command
 
-abbrev met_by : Bool → Bool → Bool → Bool → Bool → Bool → Bool → Bool → Bool → Bool → Bool → Bool → Bool → Bool → Bool → Bool → Bool → Bool → Option Text
-met_by asm check fight create submit show serve session audit migrate page replay trace try copy reseed rank help = option_map (λ (s : Text × List Text). s.0) (
+abbrev met_by : Bool → Bool → Bool → Bool → Bool → Bool → Bool → Bool → Bool → Bool → Bool → Bool → Bool → Bool → Bool → Bool → Bool → Bool → Bool → Option Text
+met_by asm check fight create submit show serve session audit migrate page replay trace try copy reseed rank explain help = option_map (λ (s : Text × List Text). s.0) (
     if asm || false then Some (codes "asm", [])
     else if check || false then Some (codes "check", [])
     else if fight || false then Some (codes "fight", [])
@@ -46,31 +46,33 @@ met_by asm check fight create submit show serve session audit migrate page repla
     else if copy || false then Some (codes "copy", [])
     else if reseed || false then Some (codes "reseed", [])
     else if rank || false then Some (codes "rank", [])
+    else if explain || false then Some (codes "explain", [])
     else if help || false then Some (codes "help", []) else None)
 
-met_is_command : (asm check fight create submit show serve session audit migrate page replay trace try copy reseed rank help : Bool) (word : Text) (h : Held)
-    → other_fault (built koth_app).top (met_by asm check fight create submit show serve session audit migrate page replay trace try copy reseed rank help) word h ≡ []
-    → IfSome (met_by asm check fight create submit show serve session audit migrate page replay trace try copy reseed rank help) IsCommandName
+met_is_command : (asm check fight create submit show serve session audit migrate page replay trace try copy reseed rank explain help : Bool) (word : Text) (h : Held)
+    → other_fault (built koth_app).top (met_by asm check fight create submit show serve session audit migrate page replay trace try copy reseed rank explain help) word h ≡ []
+    → IfSome (met_by asm check fight create submit show serve session audit migrate page replay trace try copy reseed rank explain help) IsCommandName
 unfolding clap_on_literals koth_app
-met_is_command true check fight create submit show serve session audit migrate page replay trace try copy reseed rank help word h none = inl refl
-met_is_command false true fight create submit show serve session audit migrate page replay trace try copy reseed rank help word h none = inr (inl refl)
-met_is_command false false true create submit show serve session audit migrate page replay trace try copy reseed rank help word h none = inr (inr (inl refl))
-met_is_command false false false true submit show serve session audit migrate page replay trace try copy reseed rank help word h none = inr (inr (inr (inl refl)))
-met_is_command false false false false true show serve session audit migrate page replay trace try copy reseed rank help word h none = inr (inr (inr (inr (inl refl))))
-met_is_command false false false false false true serve session audit migrate page replay trace try copy reseed rank help word h none = inr (inr (inr (inr (inr (inl refl)))))
-met_is_command false false false false false false true session audit migrate page replay trace try copy reseed rank help word h none = inr (inr (inr (inr (inr (inr (inl refl))))))
-met_is_command false false false false false false false true audit migrate page replay trace try copy reseed rank help word h none = inr (inr (inr (inr (inr (inr (inr (inl refl)))))))
-met_is_command false false false false false false false false true migrate page replay trace try copy reseed rank help word h none = inr (inr (inr (inr (inr (inr (inr (inr (inl refl))))))))
-met_is_command false false false false false false false false false true page replay trace try copy reseed rank help word h none = inr (inr (inr (inr (inr (inr (inr (inr (inr (inl refl)))))))))
-met_is_command false false false false false false false false false false true replay trace try copy reseed rank help word h none = inr (inr (inr (inr (inr (inr (inr (inr (inr (inr (inl refl))))))))))
-met_is_command false false false false false false false false false false false true trace try copy reseed rank help word h none = inr (inr (inr (inr (inr (inr (inr (inr (inr (inr (inr (inl refl)))))))))))
-met_is_command false false false false false false false false false false false false true try copy reseed rank help word h none = inr (inr (inr (inr (inr (inr (inr (inr (inr (inr (inr (inr (inl refl))))))))))))
-met_is_command false false false false false false false false false false false false false true copy reseed rank help word h none = inr (inr (inr (inr (inr (inr (inr (inr (inr (inr (inr (inr (inr (inl refl)))))))))))))
-met_is_command false false false false false false false false false false false false false false true reseed rank help word h none = inr (inr (inr (inr (inr (inr (inr (inr (inr (inr (inr (inr (inr (inr (inl refl))))))))))))))
-met_is_command false false false false false false false false false false false false false false false true rank help word h none = inr (inr (inr (inr (inr (inr (inr (inr (inr (inr (inr (inr (inr (inr (inr (inl refl)))))))))))))))
-met_is_command false false false false false false false false false false false false false false false false true help word h none = inr (inr (inr (inr (inr (inr (inr (inr (inr (inr (inr (inr (inr (inr (inr (inr refl)))))))))))))))
-met_is_command false false false false false false false false false false false false false false false false false true word h none = absurd (cc)
-met_is_command false false false false false false false false false false false false false false false false false false word h none = tt
+met_is_command true check fight create submit show serve session audit migrate page replay trace try copy reseed rank explain help word h none = inl refl
+met_is_command false true fight create submit show serve session audit migrate page replay trace try copy reseed rank explain help word h none = inr (inl refl)
+met_is_command false false true create submit show serve session audit migrate page replay trace try copy reseed rank explain help word h none = inr (inr (inl refl))
+met_is_command false false false true submit show serve session audit migrate page replay trace try copy reseed rank explain help word h none = inr (inr (inr (inl refl)))
+met_is_command false false false false true show serve session audit migrate page replay trace try copy reseed rank explain help word h none = inr (inr (inr (inr (inl refl))))
+met_is_command false false false false false true serve session audit migrate page replay trace try copy reseed rank explain help word h none = inr (inr (inr (inr (inr (inl refl)))))
+met_is_command false false false false false false true session audit migrate page replay trace try copy reseed rank explain help word h none = inr (inr (inr (inr (inr (inr (inl refl))))))
+met_is_command false false false false false false false true audit migrate page replay trace try copy reseed rank explain help word h none = inr (inr (inr (inr (inr (inr (inr (inl refl)))))))
+met_is_command false false false false false false false false true migrate page replay trace try copy reseed rank explain help word h none = inr (inr (inr (inr (inr (inr (inr (inr (inl refl))))))))
+met_is_command false false false false false false false false false true page replay trace try copy reseed rank explain help word h none = inr (inr (inr (inr (inr (inr (inr (inr (inr (inl refl)))))))))
+met_is_command false false false false false false false false false false true replay trace try copy reseed rank explain help word h none = inr (inr (inr (inr (inr (inr (inr (inr (inr (inr (inl refl))))))))))
+met_is_command false false false false false false false false false false false true trace try copy reseed rank explain help word h none = inr (inr (inr (inr (inr (inr (inr (inr (inr (inr (inr (inl refl)))))))))))
+met_is_command false false false false false false false false false false false false true try copy reseed rank explain help word h none = inr (inr (inr (inr (inr (inr (inr (inr (inr (inr (inr (inr (inl refl))))))))))))
+met_is_command false false false false false false false false false false false false false true copy reseed rank explain help word h none = inr (inr (inr (inr (inr (inr (inr (inr (inr (inr (inr (inr (inr (inl refl)))))))))))))
+met_is_command false false false false false false false false false false false false false false true reseed rank explain help word h none = inr (inr (inr (inr (inr (inr (inr (inr (inr (inr (inr (inr (inr (inr (inl refl))))))))))))))
+met_is_command false false false false false false false false false false false false false false false true rank explain help word h none = inr (inr (inr (inr (inr (inr (inr (inr (inr (inr (inr (inr (inr (inr (inr (inl refl)))))))))))))))
+met_is_command false false false false false false false false false false false false false false false false true explain help word h none = inr (inr (inr (inr (inr (inr (inr (inr (inr (inr (inr (inr (inr (inr (inr (inr (inl refl))))))))))))))))
+met_is_command false false false false false false false false false false false false false false false false false true help word h none = inr (inr (inr (inr (inr (inr (inr (inr (inr (inr (inr (inr (inr (inr (inr (inr (inr refl))))))))))))))))
+met_is_command false false false false false false false false false false false false false false false false false false true word h none = absurd (cc)
+met_is_command false false false false false false false false false false false false false false false false false false false word h none = tt
 
 each_is_command : OnNames (built koth_app).top (names_of (built koth_app)) IsCommandName
 unfolding clap_on_literals koth_app
@@ -80,7 +82,7 @@ each_is_command idle word h none = met_is_command
     (bytes_eq (codes "serve") word) (bytes_eq (codes "session") word) (bytes_eq (codes "audit") word)
     (bytes_eq (codes "migrate") word) (bytes_eq (codes "page") word) (bytes_eq (codes "replay") word)
     (bytes_eq (codes "trace") word) (bytes_eq (codes "try") word) (bytes_eq (codes "copy") word)
-    (bytes_eq (codes "reseed") word) (bytes_eq (codes "rank") word) (bytes_eq (codes "help") word) word h none
+    (bytes_eq (codes "reseed") word) (bytes_eq (codes "rank") word) (bytes_eq (codes "explain") word) (bytes_eq (codes "help") word) word h none
 each_is_command (option id) word h none = tt
 each_is_command positional word h none = tt
 
@@ -116,7 +118,8 @@ enters_command (Some p) (inr (inr (inr (inr (inr (inr (inr (inr (inr (inr (inr (
 enters_command (Some p) (inr (inr (inr (inr (inr (inr (inr (inr (inr (inr (inr (inr (inr (inl is)))))))))))))) has = named_at p (codes "try") is (inr (inr (inr (inr (inr (inr (inr (inr (inr (inr (inr (inr (inr (inl refl))))))))))))))
 enters_command (Some p) (inr (inr (inr (inr (inr (inr (inr (inr (inr (inr (inr (inr (inr (inr (inl is))))))))))))))) has = named_at p (codes "copy") is (inr (inr (inr (inr (inr (inr (inr (inr (inr (inr (inr (inr (inr (inr (inl refl)))))))))))))))
 enters_command (Some p) (inr (inr (inr (inr (inr (inr (inr (inr (inr (inr (inr (inr (inr (inr (inr (inl is)))))))))))))))) has = named_at p (codes "reseed") is (inr (inr (inr (inr (inr (inr (inr (inr (inr (inr (inr (inr (inr (inr (inr (inl refl))))))))))))))))
-enters_command (Some p) (inr (inr (inr (inr (inr (inr (inr (inr (inr (inr (inr (inr (inr (inr (inr (inr is)))))))))))))))) has = named_at p (codes "rank") is (inr (inr (inr (inr (inr (inr (inr (inr (inr (inr (inr (inr (inr (inr (inr (inr refl))))))))))))))))
+enters_command (Some p) (inr (inr (inr (inr (inr (inr (inr (inr (inr (inr (inr (inr (inr (inr (inr (inr (inl is))))))))))))))))) has = named_at p (codes "rank") is (inr (inr (inr (inr (inr (inr (inr (inr (inr (inr (inr (inr (inr (inr (inr (inr (inl refl)))))))))))))))))
+enters_command (Some p) (inr (inr (inr (inr (inr (inr (inr (inr (inr (inr (inr (inr (inr (inr (inr (inr (inr is))))))))))))))))) has = named_at p (codes "explain") is (inr (inr (inr (inr (inr (inr (inr (inr (inr (inr (inr (inr (inr (inr (inr (inr (inr refl)))))))))))))))))
 
 -- words in which clap finds no fault name a command
 names_command : (words : List Text) → fault_of koth_app words ≡ [] → NamesCommand (option_map (λ p. p.0) (subcommand_of koth_app words))

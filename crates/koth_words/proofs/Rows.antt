@@ -1,9 +1,9 @@
 -- Rows of the definitions, computed.
 use Rattle.{std.proofs.Common.{◌≡◌, true, false, true≢false, List, [], ◌∷◌, Some, None, Ok, codes, refl, sym, inl, inr}, clap.specs.Words.{Row, all_of, fault_of, first_of, one_of, subcommand_of, takes}}
 use Rattle.{clap.proofs.OnLiterals.clap_on_literals, clap.specs.declared.error.kind.ErrorKind.ErrorKind, war_types.specs.Settings.settings_of}
-use Rattle.koth_words.specs.{Options.{default_settings, number_given, number_or}, Settings.{chosen_in, given_as, over, preset_settings}}
+use Rattle.koth_words.specs.{Fraction.{part_at, part_in}, Options.{default_settings, number_given, number_or}, Settings.{chosen_in, given_as, over, preset_settings}}
 use Rattle.koth_words.specs.{declared.serving.TheConstants.STEPS, Words.{AreTaken, AreWrong, AskForHelp, AsksFor, IsAddress}}
-use Rattle.koth_words.specs.Words.{create_named, draw_seed_named, draws_seed, form_named, given_by, given_in, is_remote, koth_app, matches_named, overwrite_named, reads_input, replays_named, round_in, settings_named}
+use Rattle.koth_words.specs.Words.{create_named, draw_seed_named, draws_seed, form_named, form_under, given_by, given_in, is_remote, koth_app, matches_named, overwrite_named, reads_input, replays_named, round_in, settings_named}
 use Rattle.{koth_words.specs.{Words.view_named, Place.names_port, Sources.{Place, place_named, places_named}, declared.requests.{Form.Form, Round.Round, View.View}}, koth_words.proofs.Addresses.{any_address, every_address, every_address_is_one, every_long_address, every_long_address_is_one, four, not_here, not_to_a_group, not_to_a_mapped_group, not_to_all, not_with_port, this_machine}}
 
 -- the premise of `asm` is met by these words
@@ -71,7 +71,7 @@ not_taken : (takes koth_app (codes "koth" ∷ []) ≡ false)
     × (takes koth_app (codes "koth" ∷ codes "help" ∷ []) ≡ false)
     × (takes koth_app (codes "koth" ∷ codes "asm" ∷ codes "--help" ∷ []) ≡ false)
     × (takes koth_app (codes "koth" ∷ codes "asm" ∷ codes "a.red" ∷ codes "extra" ∷ []) ≡ false)
-    × (takes koth_app (codes "koth" ∷ codes "fight" ∷ codes "a.red" ∷ []) ≡ false)
+    × (takes koth_app (codes "koth" ∷ codes "replay" ∷ codes "a.red" ∷ []) ≡ false)
     × (takes koth_app (codes "koth" ∷ codes "asm" ∷ codes "--size=64" ∷ []) ≡ false)
     × (takes koth_app (codes "koth" ∷ codes "asm" ∷ codes "--core=x" ∷ []) ≡ false)
     × (takes koth_app (codes "koth" ∷ codes "asm" ∷ codes "--core=4294967296" ∷ []) ≡ false)
@@ -310,8 +310,68 @@ opponents : AsksFor View.Plain (codes "fight") (codes "koth" ∷ codes "fight" �
     × AsksFor View.Plain (codes "fight") (codes "koth" ∷ codes "fight" ∷ codes "a" ∷ codes "b" ∷ codes "--each" ∷ [])
     × AreWrong View.Plain (codes "koth" ∷ codes "fight" ∷ codes "a" ∷ codes "b" ∷ codes "c" ∷ codes "--each" ∷ [])
     × AreWrong View.Plain (codes "koth" ∷ codes "fight" ∷ codes "a" ∷ codes "b" ∷ codes "--both" ∷ codes "--each" ∷ [])
+    × AreWrong View.Plain (codes "koth" ∷ codes "fight" ∷ codes "a" ∷ [])
 unfolding clap_on_literals koth_app
-opponents = (((refl, (refl, refl, refl, refl, tt)), refl), refl, refl, ((refl, (refl, refl, refl, refl, tt)), refl), inr (refl, λ clear. true≢false (sym clear.2)), inr (refl, λ clear. true≢false (sym clear.2)))
+opponents = (
+  ((refl, (refl, refl, refl, refl, tt)), refl),
+  refl,
+  refl,
+  ((refl, (refl, refl, refl, refl, tt)), refl),
+  inr (refl, λ clear. true≢false (sym clear.2)),
+  inr (refl, λ clear. true≢false (sym clear.2)),
+  inr (refl, λ clear. true≢false (sym clear.2)),
+)
+
+-- warriors that come by standard input: of them the first file is an opponent too, and each is answered by one line
+candidates : AsksFor View.Plain (codes "fight") (codes "koth" ∷ codes "fight" ∷ codes "--many" ∷ codes "a" ∷ [])
+    × (place_named (codes "MINE") (given_by (codes "koth" ∷ codes "fight" ∷ codes "a" ∷ codes "b" ∷ codes "--many" ∷ [])) ≡ Place.File (codes "a"))
+    × (places_named (codes "OTHER") (given_by (codes "koth" ∷ codes "fight" ∷ codes "a" ∷ codes "b" ∷ codes "--many" ∷ [])) ≡ Place.File (codes "b") ∷ [])
+    × (takes koth_app (codes "koth" ∷ codes "fight" ∷ codes "--many" ∷ []) ≡ false)
+    × AreWrong View.Plain (codes "koth" ∷ codes "fight" ∷ codes "--many" ∷ codes "a" ∷ codes "-" ∷ [])
+    × AreWrong View.Plain (codes "koth" ∷ codes "fight" ∷ codes "--many" ∷ codes "a" ∷ codes "--both" ∷ [])
+    × AreWrong View.Plain (codes "koth" ∷ codes "fight" ∷ codes "--many" ∷ codes "a" ∷ codes "--each" ∷ [])
+    × AreWrong View.Plain (codes "koth" ∷ codes "fight" ∷ codes "--many" ∷ codes "a" ∷ codes "--define=X=1" ∷ [])
+    × AreWrong View.Plain (codes "koth" ∷ codes "fight" ∷ codes "--many" ∷ codes "a" ∷ codes "--plain" ∷ [])
+unfolding clap_on_literals koth_app
+candidates = (
+  ((refl, (refl, refl, refl, refl, tt)), refl),
+  refl,
+  refl,
+  refl,
+  inr (refl, λ clear. true≢false (sym clear.2)),
+  inr (refl, λ clear. true≢false (sym clear.2)),
+  inr (refl, λ clear. true≢false (sym clear.2)),
+  inr (refl, λ clear. true≢false (sym clear.2)),
+  inr (refl, λ clear. true≢false (sym clear.2)),
+)
+
+-- another body for a name is given whole, once, and to commands that read sources
+defines : (first_of (codes "define") (given_by (codes "koth" ∷ codes "asm" ∷ codes "--define" ∷ codes "STEP=4 + 1" ∷ [])) ≡ Some (codes "STEP=4 + 1"))
+    × (first_of (codes "define") (given_by (codes "koth" ∷ codes "asm" ∷ codes "a" ∷ [])) ≡ None)
+    × (takes koth_app (codes "koth" ∷ codes "asm" ∷ codes "--define=A=1" ∷ codes "--define=B=2" ∷ []) ≡ false)
+    × (takes koth_app (codes "koth" ∷ codes "rank" ∷ codes "a" ∷ codes "--define=A=1" ∷ []) ≡ false)
+    × AsksFor View.Plain (codes "check") (codes "koth" ∷ codes "check" ∷ codes "a" ∷ codes "--define=A=1" ∷ [])
+    × AsksFor View.Plain (codes "fight") (codes "koth" ∷ codes "fight" ∷ codes "a" ∷ codes "b" ∷ codes "--define=A=1" ∷ [])
+    × AsksFor View.Plain (codes "replay") (codes "koth" ∷ codes "replay" ∷ codes "a" ∷ codes "b" ∷ codes "--define=A=1" ∷ [])
+    × AsksFor View.Plain (codes "trace") (codes "koth" ∷ codes "trace" ∷ codes "a" ∷ codes "b" ∷ codes "--define=A=1" ∷ [])
+    × AsksFor View.Plain (codes "try") (codes "koth" ∷ codes "try" ∷ codes "a.hill" ∷ codes "a" ∷ codes "--define=A=1" ∷ [])
+unfolding clap_on_literals koth_app
+defines = (refl, refl, refl, refl, ((refl, (refl, refl, refl, refl, tt)), refl), ((refl, (refl, refl, refl, refl, tt)), refl), ((refl, (refl, refl, refl, refl, tt)), refl), ((refl, (refl, refl, refl, refl, tt)), refl), ((refl, (refl, refl, refl, refl, tt)), refl))
+
+-- a listing, the load text of one warrior of a hill in a file, and a kind that is explained
+listings : AsksFor View.Plain (codes "asm") (codes "koth" ∷ codes "asm" ∷ codes "a" ∷ codes "--listing" ∷ [])
+    × (number_given 4294967296 (one_of (codes "entry") (given_by (codes "koth" ∷ codes "show" ∷ codes "a.hill" ∷ codes "--entry=7" ∷ []))) ≡ Some 7)
+    × (number_given 4294967296 (one_of (codes "entry") (given_by (codes "koth" ∷ codes "show" ∷ codes "a.hill" ∷ []))) ≡ None)
+    × (takes koth_app (codes "koth" ∷ codes "show" ∷ codes "a.hill" ∷ codes "--entry=0" ∷ []) ≡ false)
+    × AreWrong View.Plain (codes "koth" ∷ codes "show" ∷ codes "a.hill" ∷ codes "--entry=7" ∷ codes "--matches" ∷ [])
+    × AreWrong View.Plain (codes "koth" ∷ codes "show" ∷ codes "a.hill" ∷ codes "--entry=7" ∷ codes "--settings" ∷ [])
+    × AreWrong View.Plain (codes "koth" ∷ codes "show" ∷ codes "a.hill" ∷ codes "--entry=7" ∷ codes "--plain" ∷ [])
+    × AreWrong View.Plain (codes "koth" ∷ codes "show" ∷ codes "--to=a:1" ∷ codes "--entry=7" ∷ [])
+    × AsksFor View.Plain (codes "explain") (codes "koth" ∷ codes "explain" ∷ [])
+    × (first_of (codes "KIND") (given_by (codes "koth" ∷ codes "explain" ∷ codes "NoEqu" ∷ [])) ≡ Some (codes "NoEqu"))
+    × AsksFor View.Plain (codes "explain") (codes "koth" ∷ codes "explain" ∷ codes "NoEqu" ∷ [])
+unfolding clap_on_literals koth_app
+listings = (((refl, (refl, refl, refl, refl, tt)), refl), refl, refl, refl, inr (refl, λ clear. true≢false (sym clear.0)), inr (refl, λ clear. true≢false (sym clear.0)), inr (refl, λ clear. true≢false (sym clear.0)), inr (refl, λ clear. true≢false (sym clear.3)), ((refl, (refl, refl, refl, refl, tt)), refl), refl, ((refl, (refl, refl, refl, refl, tt)), refl))
 
 -- one source at most is the input, and only it has a name for messages
 inputs_given : AsksFor View.Plain (codes "submit") (codes "koth" ∷ codes "submit" ∷ codes "a.hill" ∷ codes "-" ∷ codes "--name=a.red" ∷ [])
@@ -367,6 +427,14 @@ creations : AsksFor View.Plain (codes "serve") (codes "koth" ∷ codes "serve" �
 unfolding clap_on_literals koth_app
 creations = (((refl, (refl, refl, refl, refl, tt)), refl), refl, refl, refl)
 
+-- the form of the lines of a service
+logs : (form_under (codes "log-format") (given_by (codes "koth" ∷ codes "serve" ∷ codes "a.hill" ∷ codes "--port=0" ∷ codes "--log-format=json" ∷ [])) ≡ Form.Json)
+    × (form_under (codes "log-format") (given_by (codes "koth" ∷ codes "serve" ∷ codes "a.hill" ∷ codes "--port=0" ∷ [])) ≡ Form.Text)
+    × AsksFor View.Plain (codes "serve") (codes "koth" ∷ codes "serve" ∷ codes "a.hill" ∷ codes "--port=0" ∷ codes "--log-format=text" ∷ [])
+    × AreWrong View.Plain (codes "koth" ∷ codes "serve" ∷ codes "a.hill" ∷ codes "--port=0" ∷ codes "--log-format=xml" ∷ [])
+unfolding clap_on_literals koth_app
+logs = (refl, refl, ((refl, (refl, refl, refl, refl, tt)), refl), inr (refl, λ clear. true≢false (sym clear.1)))
+
 -- the seed of a hill that is created is drawn if none is given, be it the default one
 drawn_for_service : (draws_seed (given_by (codes "koth" ∷ codes "serve" ∷ codes "a.hill" ∷ codes "--port=0" ∷ codes "--create" ∷ [])) ≡ true)
     × (draws_seed (given_by (codes "koth" ∷ codes "serve" ∷ codes "a.hill" ∷ codes "--port=0" ∷ codes "--create" ∷ codes "--seed=1" ∷ [])) ≡ false)
@@ -395,6 +463,55 @@ fields : AsksFor View.Plain (codes "rank") (codes "koth" ∷ codes "rank" ∷ co
     × AreWrong View.Plain (codes "koth" ∷ codes "rank" ∷ codes "-" ∷ codes "-" ∷ [])
 unfolding clap_on_literals koth_app
 fields = (((refl, (refl, refl, refl, refl, tt)), refl), refl, refl, inr (refl, λ clear. true≢false (sym clear.2)))
+
+-- a part of a field's matches, parts that are joined, and no table of a part
+abbrev many_parts : List Row
+many_parts = given_by (codes "koth" ∷ codes "rank" ∷ codes "a" ∷ codes "--part=2/7" ∷ [])
+
+parts : (part_in many_parts ≡ Some (record { number = 2; count = 7 }))
+    × (part_in (given_by (codes "koth" ∷ codes "rank" ∷ codes "a" ∷ [])) ≡ None)
+    × (part_at (codes "007/4294967295") ≡ Some (record { number = 7; count = 4294967295 })) × (part_at (codes "1/1") ≡ Some (record { number = 1; count = 1 }))
+    × (part_at (codes "0/3") ≡ None) × (part_at (codes "4/3") ≡ None) × (part_at (codes "1/4294967296") ≡ None)
+    × (part_at (codes "1") ≡ None) × (part_at (codes "1/") ≡ None) × (part_at (codes "/1") ≡ None) × (part_at (codes "+1/2") ≡ None)
+    × (part_at (codes "1/2/3") ≡ None) × (part_at (codes "") ≡ None)
+    × AsksFor View.Plain (codes "rank") (codes "koth" ∷ codes "rank" ∷ codes "a" ∷ codes "--join" ∷ codes "b" ∷ codes "--plain" ∷ [])
+    × AsksFor View.Plain (codes "rank") (codes "koth" ∷ codes "rank" ∷ codes "a" ∷ codes "--matches" ∷ codes "--table" ∷ [])
+    × AsksFor View.Plain (codes "rank") (codes "koth" ∷ codes "rank" ∷ codes "a" ∷ codes "--part=2/7" ∷ codes "--both" ∷ [])
+    × AreWrong View.Plain (codes "koth" ∷ codes "rank" ∷ codes "a" ∷ codes "--part=0/3" ∷ [])
+    × AreWrong View.Plain (codes "koth" ∷ codes "rank" ∷ codes "a" ∷ codes "--part=1/2" ∷ codes "--matches" ∷ [])
+    × AreWrong View.Plain (codes "koth" ∷ codes "rank" ∷ codes "a" ∷ codes "--part=1/2" ∷ codes "--table" ∷ [])
+    × AreWrong View.Plain (codes "koth" ∷ codes "rank" ∷ codes "a" ∷ codes "--join" ∷ codes "--part=1/2" ∷ [])
+    × AreWrong View.Plain (codes "koth" ∷ codes "rank" ∷ codes "a" ∷ codes "--join" ∷ codes "--both" ∷ [])
+    × AreWrong View.Plain (codes "koth" ∷ codes "rank" ∷ codes "a" ∷ codes "--join" ∷ codes "--matches" ∷ [])
+    × AreWrong View.Plain (codes "koth" ∷ codes "rank" ∷ codes "a" ∷ codes "--join" ∷ codes "-r5" ∷ [])
+    × AreWrong View.Plain (codes "koth" ∷ codes "rank" ∷ codes "a" ∷ codes "--join" ∷ codes "--like=h" ∷ [])
+unfolding clap_on_literals koth_app
+parts = (
+  refl,
+  refl,
+  refl,
+  refl,
+  refl,
+  refl,
+  refl,
+  refl,
+  refl,
+  refl,
+  refl,
+  refl,
+  refl,
+  ((refl, (refl, refl, refl, refl, tt)), refl),
+  ((refl, (refl, refl, refl, refl, tt)), refl),
+  ((refl, (refl, refl, refl, refl, tt)), refl),
+  inr (refl, λ clear. true≢false (sym clear.1)),
+  inr (refl, λ clear. true≢false (sym clear.2)),
+  inr (refl, λ clear. true≢false (sym clear.2)),
+  inr (refl, λ clear. true≢false (sym clear.2)),
+  inr (refl, λ clear. true≢false (sym clear.2)),
+  inr (refl, λ clear. true≢false (sym clear.2)),
+  inr (refl, λ clear. true≢false (sym clear.2)),
+  inr (refl, λ clear. true≢false (sym clear.2)),
+)
 
 -- ---- a hill elsewhere
 

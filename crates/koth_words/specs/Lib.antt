@@ -7,5 +7,7 @@ pub mod Settings
 pub mod Sources
 -- where a hill elsewhere is
 pub mod Place
+-- which part of a work is asked for
+pub mod Fraction
 -- the requests that command lines make
 pub mod Words

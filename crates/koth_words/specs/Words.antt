@@ -3,9 +3,9 @@ use Rattle.std.specs.Prelude.{◌≡◌, ◌≢◌, ◌⊎◌, ◌==◌, ◌&&�
 use Rattle.std.specs.{Option.option_map_or, Net.{Addr.{IsIpv4Mapped, IsMulticastV6, IsWithinAt, MatchIp, ipv4_octets, ipv6_segments, low_octets}, Grammar.IsIpText}, Str.bytes_eq, List.list_any, declared.net.ip_addr.IpAddr.IpAddr}
 use Rattle.clap.specs.{Words.{IsAmong, Row, Text, all_of, fault_of, first_of, one_of, subcommand_of, takes}, declared.error.kind.ErrorKind.ErrorKind}
 use Rattle.war_types.specs.declared.settings.RawSettings.{RawSettings}
-use Rattle.koth_words.specs.{Options.{number_below, number_given, number_or}, Place.writes_place, Settings.{IsGiven, settings_in}, Sources.{inputs_in, is_input, place, place_named, places_named, words_in}, declared.settings.Given.Given}
-use Rattle.koth_words.specs.{declared.serving.TheConstants.STEPS, declared.requests.Checked.Checked, declared.requests.Fighters.Fighters, declared.requests.Form.Form, declared.requests.NoRequest.NoRequest, declared.requests.Ranking.Ranking, declared.requests.Request.Request}
-use Rattle.koth_words.specs.{declared.requests.Request.TheVariants.{Asm, Check, Fight, Create, Submit, SubmitTo, Show, ShowTo, Serve, Session, Audit, Migrate, Page, Replay, Trace, Try, Copy, Reseed, Rank}, declared.requests.Round.Round, declared.requests.Sent.Sent, declared.requests.View.View, declared.requests.Way.Way}
+use Rattle.koth_words.specs.{Fraction.part_in, Options.{number_below, number_given, number_or}, Place.writes_place, Settings.{IsGiven, settings_in}, Sources.{inputs_in, is_input, place, place_named, places_named, words_in}, declared.settings.Given.Given}
+use Rattle.koth_words.specs.{declared.serving.TheConstants.STEPS, declared.requests.Checked.Checked, declared.requests.Fighters.Fighters, declared.requests.Form.Form, declared.requests.Joined.Joined, declared.requests.NoRequest.NoRequest, declared.requests.Ranking.Ranking, declared.requests.Request.Request}
+use Rattle.koth_words.specs.{declared.requests.Request.TheVariants.{Asm, Check, Fight, Create, Submit, SubmitTo, Show, ShowTo, Serve, Session, Audit, Migrate, Page, Replay, Trace, Try, Copy, Reseed, Rank, Many, Join, Explain}, declared.requests.Round.Round, declared.hills.Sent.Sent, declared.requests.View.View, declared.hills.Way.Way}
 unfoldable pub use Rattle.koth_options.specs.Commands.{koth_app}
 
 -- what a command is given, if one is entered
@@ -65,8 +65,12 @@ is_json name = option_map_or (λ text. bytes_eq text (codes "json")) name false
 abbrev pub asks_json : List Row → Bool
 asks_json given = is_json (first_of (codes "format") given)
 
+-- the form that the option of this name asks for
+abbrev pub form_under : Text → List Row → Form
+form_under name given = if is_json (first_of name given) then Form.Json else Form.Text
+
 abbrev pub form_in : List Row → Form
-form_in given = if asks_json given then Form.Json else Form.Text
+form_in given = form_under (codes "format") given
 
 -- the form of the report of `check`
 abbrev pub form_named : List (List ℕ) → Form
@@ -142,12 +146,13 @@ abbrev pub at_most_one : List Bool → Bool
 at_most_one given = nat_le (count_by (λ is_given. is_given) given) 1
 
 -- of layouts, of a seed that is drawn and one that is given, of a hill and a preset, of settings and matches to be
--- shown, and of rounds
+-- shown, of a warrior and what else is shown of a hill, and of rounds
 abbrev pub has_one_choice : List Row → Bool
 has_one_choice given = at_most_one (has_flag (codes "plain") given ∷ has_flag (codes "table") given ∷ asks_json given ∷ [])
     && at_most_one (has_flag (codes "draw-seed") given ∷ has_option (codes "seed") given ∷ [])
     && at_most_one (has_option (codes "like") given ∷ has_option (codes "preset") given ∷ [])
     && at_most_one (has_flag (codes "settings") given ∷ has_flag (codes "matches") given ∷ [])
+    && not (has_option (codes "entry") given && (has_flag (codes "settings") given || has_flag (codes "matches") given || is_some (view_in given)))
     && at_most_one (has_option (codes "round") given ∷ has_flag (codes "lost") given ∷ has_flag (codes "won") given ∷ has_flag (codes "tied") given ∷ [])
 
 -- no option, or one with one of these texts
@@ -155,10 +160,18 @@ abbrev pub is_left_out_or : List Text → Option Text → Bool
 is_left_out_or known text = option_map_or (λ text. list_any (λ one. bytes_eq text one) known) text true
 
 -- the format is `text` or `json`, the preset is known, and what is denied is `warnings`, if they are given
-abbrev pub has_known_texts : List Row → Bool
-has_known_texts given = is_left_out_or (codes "text" ∷ codes "json" ∷ []) (first_of (codes "format") given)
+abbrev pub has_known_words : List Row → Bool
+has_known_words given = is_left_out_or (codes "text" ∷ codes "json" ∷ []) (first_of (codes "format") given)
     && is_left_out_or (codes "94nop" ∷ codes "tiny" ∷ codes "nano" ∷ []) (first_of (codes "preset") given)
     && is_left_out_or (codes "warnings" ∷ []) (first_of (codes "deny") given)
+
+-- the lines of a service are `text` or `json`, and a part is one, if they are given
+abbrev pub has_known_forms : List Row → Bool
+has_known_forms given = is_left_out_or (codes "text" ∷ codes "json" ∷ []) (first_of (codes "log-format") given)
+    && not (has_option (codes "part") given && not (is_some (part_in given)))
+
+abbrev pub has_known_texts : List Row → Bool
+has_known_texts given = has_known_words given && has_known_forms given
 
 -- the hill is elsewhere: at an address, or behind standard input and output
 abbrev pub is_remote : List Row → Bool
@@ -170,10 +183,36 @@ sends_input given = is_remote given && is_input (text_or_none (first_of (codes "
 
 -- at most one source is the input, and messages have a name for it only if there is one; each round is told of one
 -- match alone
-abbrev pub has_clear_sources : List Row → Bool
-has_clear_sources given = nat_le (inputs_in given) 1
+abbrev pub has_clear_inputs : List Row → Bool
+has_clear_inputs given = nat_le (inputs_in given) 1
     && not (has_option (codes "name") given && inputs_in given == 0 && not (sends_input given))
     && not (has_flag (codes "each") given && (has_flag (codes "both") given || nat_lt 1 (length (words_in (codes "OTHER") given))))
+
+-- a warrior has an opponent: `fight`, which alone has `--many`, names another one, or opponents of many
+abbrev pub has_opponents : List Row → Bool
+has_opponents given = not (has_option (codes "many") given && not (has_flag (codes "many") given) && not (has_option (codes "OTHER") given))
+
+-- warriors that come by standard input are each answered by one line, and no opponent comes there too
+abbrev pub fits_many : List Row → Bool
+fits_many given = not (has_flag (codes "many") given && (has_flag (codes "both") given || has_flag (codes "each") given || has_option (codes "define") given
+    || is_some (view_in given) || nat_lt 0 (inputs_in given)))
+
+-- of a part of the matches there is no table
+abbrev pub fits_part : List Row → Bool
+fits_part given = not (has_option (codes "part") given && (has_flag (codes "matches") given || is_some (view_in given)))
+
+-- parts that are joined have their settings and matches
+abbrev pub fits_join : List Row → Bool
+fits_join given = not (has_flag (codes "join") given && (has_flag (codes "both") given || has_flag (codes "matches") given
+    || has_option (codes "part") given || has_setting given || has_option (codes "like") given))
+
+-- a contest has its warriors, and what is given fits it
+abbrev pub has_clear_contest : List Row → Bool
+has_clear_contest given = has_opponents given && fits_many given && fits_part given && fits_join given
+
+-- the sources are clear, and so is their contest
+abbrev pub has_clear_sources : List Row → Bool
+has_clear_sources given = has_clear_inputs given && has_clear_contest given
 
 -- settings are given to a hill that has none: `serve`, which alone takes a port, uses them with `--create` alone
 abbrev pub uses_settings : List Row → Bool
@@ -196,18 +235,19 @@ abbrev pub has_pages : List Row → Bool
 has_pages given = not (is_of_pages given && not (has_option (codes "http") given))
 
 -- a hill is named, in a file or elsewhere: `submit`, which alone has `--pipe`, names a hill file and a source, or a
--- source for a hill elsewhere; `show`, which alone has `--matches`, names a hill file or a hill elsewhere
+-- source for a hill elsewhere; `show`, which alone has `--with-seed`, names a hill file or a hill elsewhere
 abbrev pub names_hill : List Row → Bool
 names_hill given = not (has_option (codes "pipe") given && not (is_remote given) && not (has_option (codes "SOURCE") given))
     && not (is_remote given && has_option (codes "SOURCE") given)
-    && not (has_option (codes "matches") given && not (has_option (codes "to") given) && not (has_option (codes "FILE") given))
-    && not (has_option (codes "matches") given && has_option (codes "to") given && has_option (codes "FILE") given)
+    && not (has_option (codes "with-seed") given && not (has_option (codes "to") given) && not (has_option (codes "FILE") given))
+    && not (has_option (codes "with-seed") given && has_option (codes "to") given && has_option (codes "FILE") given)
 
 -- a hill elsewhere is at one place and has no lock, of it there is the table alone, its settings are given and not read
 -- from it, and through a pipe come its answers and not the source; it alone has a limit of time
 abbrev pub fits_elsewhere : List Row → Bool
 fits_elsewhere given = at_most_one (has_option (codes "wait") given ∷ has_option (codes "to") given ∷ has_flag (codes "pipe") given ∷ [])
     && not (has_option (codes "to") given && (has_flag (codes "settings") given || has_flag (codes "matches") given))
+    && not (has_option (codes "to") given && has_option (codes "entry") given)
     && not (has_option (codes "timeout") given && not (has_option (codes "to") given))
     && not (has_option (codes "pipe") given && not (is_remote given) && (has_setting given || has_option (codes "like") given))
     && not (has_flag (codes "pipe") given && sends_input given)
@@ -268,6 +308,7 @@ pub record IsChecked (given : List Row) (checked : Checked) : Type 0 where
   pub form : checked.form ≡ form_in given
   pub warnings : checked.warnings ≡ (has_flag (codes "warnings") given || has_option (codes "deny") given)
   pub deny : checked.deny ≡ has_option (codes "deny") given
+  pub define : option_map (λ text. text.now) checked.define ≡ first_of (codes "define") given
 
 -- the warriors, and how they fight
 pub record AreFighters (given : List Row) (fighters : Fighters) : Type 0 where
@@ -276,12 +317,20 @@ pub record AreFighters (given : List Row) (fighters : Fighters) : Type 0 where
   pub both : fighters.both ≡ has_flag (codes "both") given
   pub each : fighters.each ≡ has_flag (codes "each") given
   pub view : fighters.view ≡ view_in given
+  pub define : option_map (λ text. text.now) fighters.define ≡ first_of (codes "define") given
 
 -- the field, and how its warriors fight each other
 pub record NamesField (given : List Row) (ranking : Ranking) : Type 0 where
   pub field : map place ranking.field.items ≡ places_named (codes "FOLDER") given
   pub both : ranking.both ≡ has_flag (codes "both") given
   pub view : ranking.view ≡ view_in given
+  pub matches : ranking.matches ≡ matches_in given
+  pub part : ranking.part ≡ part_in given
+
+-- the parts, and how their table is laid out
+pub record AreJoined (given : List Row) (joined : Joined) : Type 0 where
+  pub parts : map place joined.parts.items ≡ places_named (codes "FOLDER") given
+  pub view : joined.view ≡ view_in given
 
 -- the way to a hill elsewhere is the one that these rows give
 abbrev pub IsWay : List Row → Way → Type 0
@@ -297,10 +346,16 @@ pub record IsSent (given : List Row) (sent : Sent) : Type 0 where
 
 -- the request is that of the command that was entered, by its name and what it was given
 abbrev pub Asks : Text × List Row → Request → Type 0
-Asks entered (Asm given source) = (entered.0 ≡ codes "asm") × IsGiven entered.1 given
-    × (place source ≡ place_named (codes "SOURCE") entered.1)
+Asks entered (Asm given assembled) = (entered.0 ≡ codes "asm") × IsGiven entered.1 given
+    × (place assembled.source ≡ place_named (codes "SOURCE") entered.1)
+    × (option_map (λ text. text.now) assembled.define ≡ first_of (codes "define") entered.1)
+    × (assembled.listing ≡ has_flag (codes "listing") entered.1)
 Asks entered (Check given checked) = (entered.0 ≡ codes "check") × IsGiven entered.1 given × IsChecked entered.1 checked
 Asks entered (Fight given fighters) = (entered.0 ≡ codes "fight") × IsGiven entered.1 given × AreFighters entered.1 fighters
+    × (has_flag (codes "many") entered.1 ≡ false)
+Asks entered (Many given candidates) = (entered.0 ≡ codes "fight") × IsGiven entered.1 given
+    × (map place candidates.opponents.items ≡ place_named (codes "MINE") entered.1 ∷ places_named (codes "OTHER") entered.1)
+    × (has_flag (codes "many") entered.1 ≡ true)
 Asks entered (Create given creation) = (entered.0 ≡ codes "create") × IsGiven entered.1 given
     × (creation.hill.now ≡ text_or_none (first_of (codes "FILE") entered.1))
     × (creation.overwrite ≡ has_flag (codes "overwrite") entered.1)
@@ -321,6 +376,7 @@ Asks entered (Show shown) = (entered.0 ≡ codes "show") × (has_option (codes "
     × (shown.matches ≡ matches_in entered.1)
     × (shown.settings ≡ has_flag (codes "settings") entered.1)
     × (shown.with_seed ≡ has_flag (codes "with-seed") entered.1)
+    × (shown.entry ≡ number_given 4294967296 (one_of (codes "entry") entered.1))
     × (shown.view ≡ view_in entered.1)
 Asks entered (Serve settings service) = (entered.0 ≡ codes "serve") × (settings ≡ settings_in entered.1)
     × (service.hill.now ≡ text_or_none (first_of (codes "FILE") entered.1))
@@ -336,6 +392,7 @@ Asks entered (Serve settings service) = (entered.0 ≡ codes "serve") × (settin
     × (option_map (λ text. text.now) service.title ≡ first_of (codes "title") entered.1)
     × (option_map (λ text. text.now) service.peers_at ≡ first_of (codes "peers-at") entered.1)
     × (service.quiet ≡ has_flag (codes "quiet") entered.1)
+    × (service.log_format ≡ form_under (codes "log-format") entered.1)
     × (service.create ≡ has_flag (codes "create") entered.1)
     × (service.draw_seed ≡ draws_seed entered.1)
 Asks entered (Session session) = (entered.0 ≡ codes "session")
@@ -355,16 +412,19 @@ Asks entered (Replay given watched) = (entered.0 ≡ codes "replay") × IsGiven 
     × (place watched.younger ≡ place_named (codes "OTHER") entered.1)
     × (watched.round ≡ round_in entered.1)
     × (option_map (λ file. file.now) watched.page ≡ first_of (codes "output") entered.1)
+    × (option_map (λ text. text.now) watched.define ≡ first_of (codes "define") entered.1)
 Asks entered (Trace given traced) = (entered.0 ≡ codes "trace") × IsGiven entered.1 given
     × (place traced.older ≡ place_named (codes "MINE") entered.1)
     × (place traced.younger ≡ place_named (codes "OTHER") entered.1)
     × (traced.round ≡ round_in entered.1)
     × (traced.last ≡ number_given 4294967296 (one_of (codes "last") entered.1))
     × (traced.form ≡ form_in entered.1)
-Asks entered (Try files) = (entered.0 ≡ codes "try")
+    × (option_map (λ text. text.now) traced.define ≡ first_of (codes "define") entered.1)
+Asks entered (Try files define) = (entered.0 ≡ codes "try")
     × (files.hill.now ≡ text_or_none (first_of (codes "FILE") entered.1))
     × (place files.source ≡ place_named (codes "SOURCE") entered.1)
     × (files.view ≡ view_in entered.1)
+    × (option_map (λ text. text.now) define ≡ first_of (codes "define") entered.1)
 Asks entered (Copy files) = (entered.0 ≡ codes "copy")
     × (files.hill.now ≡ text_or_none (first_of (codes "FILE") entered.1))
     × (files.new.now ≡ text_or_none (first_of (codes "NEW") entered.1))
@@ -374,6 +434,9 @@ Asks entered (Reseed files) = (entered.0 ≡ codes "reseed")
     × (files.new.now ≡ text_or_none (first_of (codes "NEW") entered.1))
     × (files.seed ≡ number_given 4294967296 (one_of (codes "seed") entered.1))
 Asks entered (Rank given ranking) = (entered.0 ≡ codes "rank") × IsGiven entered.1 given × NamesField entered.1 ranking
+    × (has_flag (codes "join") entered.1 ≡ false)
+Asks entered (Join joined) = (entered.0 ≡ codes "rank") × AreJoined entered.1 joined × (has_flag (codes "join") entered.1 ≡ true)
+Asks entered (Explain kind) = (entered.0 ≡ codes "explain") × (option_map (λ name. name.now) kind ≡ first_of (codes "KIND") entered.1)
 
 -- the same, if a command was entered
 abbrev pub AsksBy : Option (Text × List Row) → Request → Type 0
@@ -382,9 +445,10 @@ AsksBy (Some entered) request = Asks entered request
 
 -- the settings that a request gives, if its command takes any but `serve`, whose hill keeps its own
 abbrev pub given_of : Request → Option Given
-given_of (Asm given source) = Some given
+given_of (Asm given assembled) = Some given
 given_of (Check given checked) = Some given
 given_of (Fight given files) = Some given
+given_of (Many given candidates) = Some given
 given_of (Create given creation) = Some given
 given_of (Submit files) = None
 given_of (SubmitTo given sent) = Some given
@@ -397,10 +461,12 @@ given_of (Migrate files) = None
 given_of (Page file) = None
 given_of (Replay given watched) = Some given
 given_of (Trace given traced) = Some given
-given_of (Try files) = None
+given_of (Try files define) = None
 given_of (Copy files) = None
 given_of (Reseed files) = None
 given_of (Rank given ranking) = Some given
+given_of (Join joined) = None
+given_of (Explain kind) = None
 
 -- the name of a command
 abbrev pub IsCommandName : Text → Type 0
@@ -408,7 +474,7 @@ IsCommandName name = (name ≡ codes "asm") ⊎ (name ≡ codes "check") ⊎ (na
     ⊎ (name ≡ codes "create") ⊎ (name ≡ codes "submit") ⊎ (name ≡ codes "show")
     ⊎ (name ≡ codes "serve") ⊎ (name ≡ codes "session") ⊎ (name ≡ codes "audit") ⊎ (name ≡ codes "migrate") ⊎ (name ≡ codes "page")
     ⊎ (name ≡ codes "replay") ⊎ (name ≡ codes "trace") ⊎ (name ≡ codes "try") ⊎ (name ≡ codes "copy")
-    ⊎ (name ≡ codes "reseed") ⊎ (name ≡ codes "rank")
+    ⊎ (name ≡ codes "reseed") ⊎ (name ≡ codes "rank") ⊎ (name ≡ codes "explain")
 
 -- a command is named
 abbrev pub NamesCommand : Option Text → Type 0

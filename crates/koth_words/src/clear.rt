@@ -1,11 +1,13 @@
 //! What the program refuses of the words that `clap` takes.
 
 ghost use Rattle.std.specs.Prelude.{◌≡◌, None, is_some, not, true};
-ghost use Rattle.{clap.specs.Words.{found_of, rows_of}, koth_words.specs.Words.{at_most_one, fits_elsewhere, has_clear_hill, has_clear_sources, has_known_texts, has_needs, has_one_choice, has_use, is_of_pages, is_table, shows_page, names_hill, AreClear}};
+ghost use Rattle.{clap.specs.Words.{found_of, rows_of}, koth_words.specs.Words.{at_most_one, fits_elsewhere, has_clear_hill, has_clear_inputs, has_clear_sources, has_known_forms, has_known_texts, has_known_words, has_needs, has_one_choice, has_use, is_of_pages, is_table, shows_page, names_hill, AreClear}};
 
+use crate::fitting::unclear_contest;
+use crate::fraction::part_given;
 use crate::given::{
     asks_json, flag_given, is_remote, option_given, sends_input, setting_given, text_given,
-    words_given,
+    view_given, words_given,
 };
 use crate::place::writes_place;
 use crate::requests::View;
@@ -60,6 +62,12 @@ fn second_choice(given: &ArgMatches<'_>) -> Option<&'static str>
     if !at_most_one(&[flag_given(given, "settings"), flag_given(given, "matches")]) {
         return Some("the argument '--settings' cannot be used with '--matches'");
     }
+    let of_table = flag_given(given, "settings") | flag_given(given, "matches");
+    if option_given(given, "entry") & (of_table | view_given(given).is_some()) {
+        return Some(
+            "the argument '--entry <NUMBER>' cannot be used with '--settings', '--matches' or a layout",
+        );
+    }
     if !at_most_one(&[
         option_given(given, "round"),
         flag_given(given, "lost"),
@@ -84,6 +92,16 @@ fn at_most_one(given: &[bool]) -> bool
 fn unknown_text(given: &ArgMatches<'_>) -> Option<&'static str>
     ensures { is_some result ≡ not (has_known_texts (rows_of (found_of given.now))) }
 {
+    if let Some(why) = unknown_word(given) {
+        return Some(why);
+    }
+    unknown_form(given)
+}
+
+/// A format, a preset or what is denied that is none.
+fn unknown_word(given: &ArgMatches<'_>) -> Option<&'static str>
+    ensures { is_some result ≡ not (has_known_words (rows_of (found_of given.now))) }
+{
     if !matches!(text_given(given, "format"), None | Some("text" | "json")) {
         return Some("the argument '--format <FORM>' takes 'text' or 'json'");
     }
@@ -99,9 +117,37 @@ fn unknown_text(given: &ArgMatches<'_>) -> Option<&'static str>
     None
 }
 
-/// Sources of which two are one, or that the words say too much of.
+/// A form of the lines of a service, or a part, that is none.
+fn unknown_form(given: &ArgMatches<'_>) -> Option<&'static str>
+    ensures { is_some result ≡ not (has_known_forms (rows_of (found_of given.now))) }
+{
+    if !matches!(
+        text_given(given, "log-format"),
+        None | Some("text" | "json")
+    ) {
+        return Some("the argument '--log-format <FORM>' takes 'text' or 'json'");
+    }
+    if option_given(given, "part") & part_given(given).is_none() {
+        return Some(
+            "the argument '--part <K/N>' takes two whole numbers, K from 1 to N and N to 4294967295",
+        );
+    }
+    None
+}
+
+/// Sources that are not clear, or a contest of theirs that isn't.
 fn unclear_sources(given: &ArgMatches<'_>) -> Option<&'static str>
     ensures { is_some result ≡ not (has_clear_sources (rows_of (found_of given.now))) }
+{
+    if let Some(why) = unclear_inputs(given) {
+        return Some(why);
+    }
+    unclear_contest(given)
+}
+
+/// Sources of which two are one, or that the words say too much of.
+fn unclear_inputs(given: &ArgMatches<'_>) -> Option<&'static str>
+    ensures { is_some result ≡ not (has_clear_inputs (rows_of (found_of given.now))) }
 {
     let inputs = inputs_given(given);
     if inputs > 1 {
@@ -150,7 +196,7 @@ fn without_use(view: View, given: &ArgMatches<'_>) -> Option<&'static str>
     None
 }
 
-/// Whether this is `replay`, which alone shows a round and has no format.
+/// Whether this is `replay`: only it shows a round and has no format.
 fn shows_page(given: &ArgMatches<'_>) -> bool
     ensures { result ≡ shows_page (rows_of (found_of given.now)) }
 {
@@ -177,10 +223,13 @@ fn unnamed_hill(given: &ArgMatches<'_>) -> Option<&'static str>
     if is_remote(given) & option_given(given, "SOURCE") {
         return Some("a hill file cannot be used with '--to <ADDRESS:PORT>' or '--pipe'");
     }
-    if option_given(given, "matches") & !option_given(given, "to") & !option_given(given, "FILE") {
+    if option_given(given, "with-seed")
+        & !option_given(given, "to")
+        & !option_given(given, "FILE")
+    {
         return Some("a hill file is needed, or '--to <ADDRESS:PORT>'");
     }
-    if option_given(given, "matches") & option_given(given, "to") & option_given(given, "FILE") {
+    if option_given(given, "with-seed") & option_given(given, "to") & option_given(given, "FILE") {
         return Some("a hill file cannot be used with '--to <ADDRESS:PORT>'");
     }
     None
@@ -202,6 +251,9 @@ fn unfit_elsewhere(given: &ArgMatches<'_>) -> Option<&'static str>
     let of_file = flag_given(given, "settings") | flag_given(given, "matches");
     if option_given(given, "to") & of_file {
         return Some("the arguments '--settings' and '--matches' need a hill file");
+    }
+    if option_given(given, "to") & option_given(given, "entry") {
+        return Some("the argument '--entry <NUMBER>' needs a hill file");
     }
     if option_given(given, "timeout") & !option_given(given, "to") {
         return Some("the argument '--timeout <NUMBER>' needs '--to <ADDRESS:PORT>'");

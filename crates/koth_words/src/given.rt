@@ -2,35 +2,17 @@
 
 ghost use Rattle.std.specs.Prelude.{◌≡◌, codes, map, option_map, IfOk};
 ghost use Rattle.{clap.specs.Words.{all_of, first_of, found_of, one_of, rows_of}, koth_words.specs.{Options.{number_given, number_or}, Sources.{place, place_named, words_in}}};
-ghost use Rattle.koth_words.specs.Words.{asks_json, form_in, has_flag, has_option, has_setting, is_remote, matches_in, round_in, sends_input, text_or_none, view_in, AreFighters, IsChecked, NamesField, IsSent, IsWay};
+ghost use Rattle.koth_words.specs.Words.{asks_json, form_in, form_under, has_flag, has_option, has_setting, is_remote, matches_in, sends_input, text_or_none, view_in, IsSent, IsWay};
 
+use crate::hills::{Audited, Copied, Creation, Reseeded, Sent, ShownAt, Submission, Way};
 use crate::options::{number_given, number_if_given};
-use crate::requests::{
-    Audited, Checked, Copied, Creation, Fighters, Form, Migration, Ranking, Reseeded, Round, Sent,
-    Shown, ShownAt, Submission, Traced, View, Watched, Way,
-};
-use crate::sources::{source_named, sources_named};
+use crate::requests::{Form, Migration, Shown, View};
+use crate::sources::source_named;
 use clap::ArgMatches;
 use std::alloc::{AllocError, Global};
 
 /// Seconds for which nothing may come from a hill elsewhere, unless `--timeout` is given.
 const SILENT: u32 = 600;
-
-/// The sources to check, and the form of the report.
-pub(crate) fn checked_named<'w>(
-    heap: Global,
-    matches: &ArgMatches<'w>,
-) -> Result<Checked<'w>, AllocError>
-    ensures { IfOk result (IsChecked (rows_of (found_of matches.now))) }
-{
-    let deny = option_given(matches, "deny");
-    Ok(Checked {
-        files: sources_named(heap, matches, "SOURCE")?,
-        form: form_given(matches),
-        warnings: flag_given(matches, "warnings") | deny,
-        deny,
-    })
-}
 
 /// The texts that are given under this name, in their order.
 pub(crate) fn texts_given<'w>(
@@ -54,10 +36,17 @@ pub(crate) fn words_given<'m, 'w>(matches: &'m ArgMatches<'w>, name: &str) -> Op
     matches.get_strs(name)
 }
 
-fn form_given(matches: &ArgMatches<'_>) -> Form
+pub(crate) fn form_given(matches: &ArgMatches<'_>) -> Form
     ensures { result ≡ form_in (rows_of (found_of matches.now)) }
 {
-    if asks_json(matches) {
+    form_under(matches, "format")
+}
+
+/// The form that the option of this name asks for; lines for people if it is left out.
+pub(crate) fn form_under(matches: &ArgMatches<'_>, name: &str) -> Form
+    ensures { result ≡ form_under name.now (rows_of (found_of matches.now)) }
+{
+    if text_given(matches, name) == Some("json") {
         Form::Json
     } else {
         Form::Text
@@ -72,7 +61,7 @@ pub(crate) fn asks_json(matches: &ArgMatches<'_>) -> bool
 }
 
 /// The layout that is asked for, if one is.
-fn view_given(matches: &ArgMatches<'_>) -> Option<View>
+pub(crate) fn view_given(matches: &ArgMatches<'_>) -> Option<View>
     ensures { result ≡ view_in (rows_of (found_of matches.now)) }
 {
     if flag_given(matches, "plain") {
@@ -84,21 +73,6 @@ fn view_given(matches: &ArgMatches<'_>) -> Option<View>
     } else {
         None
     }
-}
-
-pub(crate) fn fighters_named<'w>(
-    heap: Global,
-    matches: &ArgMatches<'w>,
-) -> Result<Fighters<'w>, AllocError>
-    ensures { IfOk result (AreFighters (rows_of (found_of matches.now))) }
-{
-    Ok(Fighters {
-        older: source_named(matches, "MINE"),
-        opponents: sources_named(heap, matches, "OTHER")?,
-        both: flag_given(matches, "both"),
-        each: flag_given(matches, "each"),
-        view: view_given(matches),
-    })
 }
 
 pub(crate) fn creation_named<'w>(matches: &ArgMatches<'w>) -> Creation<'w>
@@ -186,6 +160,7 @@ pub(crate) fn shown_named<'w>(matches: &ArgMatches<'w>) -> Shown<'w>
     ensures matches { result.matches ≡ matches_in (rows_of (found_of matches.now)) }
     ensures settings { result.settings ≡ has_flag (codes "settings") (rows_of (found_of matches.now)) }
     ensures with_seed { result.with_seed ≡ has_flag (codes "with-seed") (rows_of (found_of matches.now)) }
+    ensures entry { result.entry ≡ number_given 4294967296 (one_of (codes "entry") (rows_of (found_of matches.now))) }
     ensures view { result.view ≡ view_in (rows_of (found_of matches.now)) }
 {
     Shown {
@@ -193,6 +168,7 @@ pub(crate) fn shown_named<'w>(matches: &ArgMatches<'w>) -> Shown<'w>
         matches: flag_given(matches, "matches"),
         settings: flag_given(matches, "settings"),
         with_seed: flag_given(matches, "with-seed"),
+        entry: number_if_given(matches, "entry"),
         view: view_given(matches),
     }
 }
@@ -221,52 +197,6 @@ pub(crate) fn migration_named<'w>(matches: &ArgMatches<'w>) -> Migration<'w>
     Migration {
         old: file_named(matches, "FILE"),
         new: file_named(matches, "NEW"),
-    }
-}
-
-pub(crate) fn watched_named<'w>(matches: &ArgMatches<'w>) -> Watched<'w>
-    ensures older { place result.older ≡ place_named (codes "MINE") (rows_of (found_of matches.now)) }
-    ensures younger { place result.younger ≡ place_named (codes "OTHER") (rows_of (found_of matches.now)) }
-    ensures round { result.round ≡ round_in (rows_of (found_of matches.now)) }
-    ensures page { option_map (λ file. file.now) result.page
-        ≡ first_of (codes "output") (rows_of (found_of matches.now)) }
-{
-    Watched {
-        older: source_named(matches, "MINE"),
-        younger: source_named(matches, "OTHER"),
-        round: round_given(matches),
-        page: text_given(matches, "output"),
-    }
-}
-
-pub(crate) fn traced_named<'w>(matches: &ArgMatches<'w>) -> Traced<'w>
-    ensures older { place result.older ≡ place_named (codes "MINE") (rows_of (found_of matches.now)) }
-    ensures younger { place result.younger ≡ place_named (codes "OTHER") (rows_of (found_of matches.now)) }
-    ensures round { result.round ≡ round_in (rows_of (found_of matches.now)) }
-    ensures last { result.last ≡ number_given 4294967296 (one_of (codes "last") (rows_of (found_of matches.now))) }
-    ensures form { result.form ≡ form_in (rows_of (found_of matches.now)) }
-{
-    Traced {
-        older: source_named(matches, "MINE"),
-        younger: source_named(matches, "OTHER"),
-        round: round_given(matches),
-        last: number_if_given(matches, "last"),
-        form: form_given(matches),
-    }
-}
-
-/// The round that is asked for, and else the first.
-fn round_given(matches: &ArgMatches<'_>) -> Round
-    ensures { result ≡ round_in (rows_of (found_of matches.now)) }
-{
-    if flag_given(matches, "lost") {
-        Round::Lost
-    } else if flag_given(matches, "won") {
-        Round::Won
-    } else if flag_given(matches, "tied") {
-        Round::Tied
-    } else {
-        Round::Number(number_given(matches, "round", 1))
     }
 }
 
@@ -302,19 +232,6 @@ pub(crate) fn reseeded_named<'w>(matches: &ArgMatches<'w>) -> Reseeded<'w>
         new: file_named(matches, "NEW"),
         seed: number_if_given(matches, "seed"),
     }
-}
-
-pub(crate) fn ranking_named<'w>(
-    heap: Global,
-    matches: &ArgMatches<'w>,
-) -> Result<Ranking<'w>, AllocError>
-    ensures { IfOk result (NamesField (rows_of (found_of matches.now))) }
-{
-    Ok(Ranking {
-        field: sources_named(heap, matches, "FOLDER")?,
-        both: flag_given(matches, "both"),
-        view: view_given(matches),
-    })
 }
 
 /// The file in this argument. `clap` refuses a command line without it.

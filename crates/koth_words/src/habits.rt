@@ -2,7 +2,7 @@
 
 use std::alloc::{AllocError, Global};
 
-/// What stands for an option of pMARS that `koth` doesn't have, if one of these words is such an option.
+/// What does the work of an option of pMARS that `koth` doesn't have, if one of these words is such an option.
 pub(crate) fn habit_among(words: &[String]) -> Option<&'static str> {
     for word in words {
         if let Some(instead) = instead_of(word.as_str()) {
@@ -16,7 +16,7 @@ fn instead_of(word: &str) -> Option<&'static str> {
     if word.starts_with("-b") {
         Some("there is no '-b': 'fight' lists no warriors; 'asm' does")
     } else if word.starts_with("-k") {
-        Some("there is no '-k': into a pipe, or with '--plain', 'fight' writes the numbers alone")
+        Some("there is no '-k': into a pipe, or with '--plain', 'fight' writes only the numbers")
     } else if word.starts_with("-F") {
         Some(
             "there is no '-F': positions are drawn from '--seed <NUMBER>', which is the number of '-F' less the distance",

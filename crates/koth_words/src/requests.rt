@@ -3,19 +3,22 @@
 ghost use Rattle.std.specs.Prelude.{◌≡◌};
 ghost use Rattle.koth_words.specs.Words.{given_of};
 
+use crate::hills::{Audited, Copied, Creation, Reseeded, Sent, ShownAt, Submission};
+use crate::serving::{Service, Session};
 use crate::settings::Given;
-use std::net::IpAddr;
 use war_types::RawSettings;
 
 /// What a command line asks for.
 #[derive(Drop)]
 pub enum Request<'w> {
     /// `asm`: assemble a source under these settings, and write its load text.
-    Asm(Given<'w>, Source<'w>),
+    Asm(Given<'w>, Assembled<'w>),
     /// `check`: assemble sources under these settings, and report what is wrong with them.
     Check(Given<'w>, Checked<'w>),
     /// `fight`: play matches under these settings, and write their counts.
     Fight(Given<'w>, Fighters<'w>),
+    /// `fight` with `--many`: play the matches of each warrior that comes by standard input, and write their counts.
+    Many(Given<'w>, Candidates<'w>),
     /// `create`: create a hill with these settings in a file.
     Create(Given<'w>, Creation<'w>),
     /// `submit`: submit a source to a hill, and write its reply.
@@ -40,14 +43,18 @@ pub enum Request<'w> {
     Replay(Given<'w>, Watched<'w>),
     /// `trace`: write the turns of one round of a match under these settings.
     Trace(Given<'w>, Traced<'w>),
-    /// `try`: write what a submission would be answered.
-    Try(Submission<'w>),
+    /// `try`: write what a submission would be answered, with this definition in its source if one is given.
+    Try(Submission<'w>, Option<&'w str>),
     /// `copy`: copy a hill to a new file.
     Copy(Copied<'w>),
     /// `reseed`: make a new hill with another seed, and submit the warriors of a hill to it.
     Reseed(Reseeded<'w>),
     /// `rank`: play the match of each two warriors of a field under these settings, and write the warriors by points.
     Rank(Given<'w>, Ranking<'w>),
+    /// `rank` with `--join`: write the warriors of a field by points, from the parts of its matches.
+    Join(Joined<'w>),
+    /// `explain`: write what the kind of this name means, or which kinds there are.
+    Explain(Option<&'w str>),
 }
 
 impl<'w> Request<'w> {
@@ -59,6 +66,7 @@ impl<'w> Request<'w> {
             Request::Asm(given, _)
             | Request::Check(given, _)
             | Request::Fight(given, _)
+            | Request::Many(given, _)
             | Request::Create(given, _)
             | Request::SubmitTo(given, _)
             | Request::Replay(given, _)
@@ -72,9 +80,11 @@ impl<'w> Request<'w> {
             | Request::Audit(_)
             | Request::Migrate(_)
             | Request::Page(_)
-            | Request::Try(_)
+            | Request::Try(..)
             | Request::Copy(_)
-            | Request::Reseed(_) => None,
+            | Request::Reseed(_)
+            | Request::Join(_)
+            | Request::Explain(_) => None,
         }
     }
 }
@@ -88,6 +98,16 @@ pub enum Source<'w> {
     File(&'w str),
 }
 
+/// A source, and how its load text is written.
+#[derive(Clone, Copy)]
+pub struct Assembled<'w> {
+    pub source: Source<'w>,
+    /// Another body for the `EQU` lines of a name, as `NAME=VALUE`, if one is given.
+    pub define: Option<&'w str>,
+    /// Whether a comment after each instruction has where it is from.
+    pub listing: bool,
+}
+
 /// The sources that are checked, and how.
 #[derive(Drop)]
 pub struct Checked<'w> {
@@ -99,9 +119,11 @@ pub struct Checked<'w> {
     pub warnings: bool,
     /// Whether a warning is refused as a fault is.
     pub deny: bool,
+    /// Another body for the `EQU` lines of a name in each, as `NAME=VALUE`, if one is given.
+    pub define: Option<&'w str>,
 }
 
-/// The form of the report of `check`.
+/// The form of a report.
 #[derive(Clone, Copy)]
 pub enum Form {
     /// Lines for people.
@@ -129,63 +151,19 @@ pub struct Fighters<'w> {
     pub opponents: Vec<Source<'w>>,
     /// Whether each match is played in the other order too.
     pub both: bool,
-    /// Whether each round is told; then there is one opponent.
+    /// Whether each round is written; then there is one opponent.
     pub each: bool,
     /// The layout that is asked for, if one is.
     pub view: Option<View>,
+    /// Another body for the `EQU` lines of a name in the older warrior's source, as `NAME=VALUE`, if one is given.
+    pub define: Option<&'w str>,
 }
 
-/// The file of a new hill.
-#[derive(Clone, Copy)]
-pub struct Creation<'w> {
-    /// Created if missing.
-    pub hill: &'w str,
-    /// Whether what the file has is replaced.
-    pub overwrite: bool,
-    /// Whether its seed is drawn, in place of that of the settings.
-    pub draw_seed: bool,
-}
-
-/// The file of a hill, and a source for it.
-#[derive(Clone, Copy)]
-pub struct Submission<'w> {
-    pub hill: &'w str,
-    pub source: Source<'w>,
-    /// The layout that is asked for, if one is.
-    pub view: Option<View>,
-    /// Seconds for which the hill's lock is tried again if another program has it, at most 3,600; 0 if that isn't asked
-    /// for.
-    pub wait: u32,
-}
-
-/// The way to a hill elsewhere.
-#[derive(Clone, Copy)]
-pub enum Way<'w> {
-    /// A connection to this address and port, and the seconds for which nothing may come from there, 1 to 86,400.
-    To(&'w str, u32),
-    /// Standard input and output, which lead to a session.
-    Pipe,
-}
-
-/// A source that is sent to a hill elsewhere.
-#[derive(Clone, Copy)]
-pub struct Sent<'w> {
-    pub way: Way<'w>,
-    /// Not the input if the way is a pipe.
-    pub source: Source<'w>,
-    /// The layout that is asked for, if one is.
-    pub view: Option<View>,
-}
-
-/// A hill elsewhere whose table is written.
-#[derive(Clone, Copy)]
-pub struct ShownAt<'w> {
-    /// Its address and port.
-    pub to: &'w str,
-    /// The seconds for which nothing may come from there, 1 to 86,400.
-    pub timeout: u32,
-    /// The layout that is asked for, if one is.
-    pub view: Option<View>,
+/// The opponents of each warrior that comes by standard input.
+#[derive(Drop)]
+pub struct Candidates<'w> {
+    /// In the order of the command line; one or more, and none is the input.
+    pub opponents: Vec<Source<'w>>,
 }
 
 /// The file of a hill, and what is written of it.
@@ -198,61 +176,10 @@ pub struct Shown<'w> {
     pub settings: bool,
     /// Whether the seed is among them.
     pub with_seed: bool,
+    /// The entry of the warrior whose load text is written in place of the table, if one is named.
+    pub entry: Option<u32>,
     /// The layout that is asked for, if one is.
     pub view: Option<View>,
-}
-
-/// The file of a hill that is looked over.
-#[derive(Clone, Copy)]
-pub struct Audited<'w> {
-    pub hill: &'w str,
-    /// The layout that is asked for, if one is.
-    pub view: Option<View>,
-}
-
-/// The file of a hill, and how it is served.
-#[derive(Drop)]
-pub struct Service<'w> {
-    pub hill: &'w str,
-    /// 0 to 65,535; with 0 the system finds one.
-    pub port: u16,
-    /// Most peers that are served at once; with 1 it is one connection after the other.
-    pub peers: u32,
-    /// Most peers of one address that are served at once; further ones are refused. `None` for no limit.
-    pub peers_per_address: Option<u32>,
-    /// How many steps the assembly of a source may take.
-    pub steps: u32,
-    /// The address to listen at.
-    pub listen: IpAddr,
-    /// Connections to serve before the service ends; `None` for no limit.
-    pub connections: Option<u32>,
-    /// The port for browsers, 0 to 65,535; with 0 the system finds one. `None` for no pages.
-    pub http: Option<u32>,
-    /// The names of this machine that requests of browsers may be for, in the order of the command line.
-    pub hosts: Vec<&'w str>,
-    /// Whether browsers see rounds too: their pages have both warriors whole.
-    pub replays: bool,
-    /// The title of the hill's page, if one is given.
-    pub title: Option<&'w str>,
-    /// Where peers submit by the hill's page, if that is given: a host and a port, with a colon between them.
-    pub peers_at: Option<&'w str>,
-    /// Whether no line is written for a connection.
-    pub quiet: bool,
-    /// Whether the hill is created first if there is no file.
-    pub create: bool,
-    /// Whether the seed of a hill that is created is drawn, in place of that of the settings: none is given.
-    pub draw_seed: bool,
-}
-
-/// The file of a hill, and how one session on it is served.
-#[derive(Clone, Copy)]
-pub struct Session<'w> {
-    pub hill: &'w str,
-    /// Seconds for which the hill's lock is tried again if another program has it, at most 3,600; 0 if that isn't asked
-    /// for.
-    pub wait: u32,
-    /// How many steps the assembly of a source may take.
-    pub steps: u32,
 }
 
 /// The file of a hill of the old format, and the file that it moves to.
@@ -272,6 +199,8 @@ pub struct Watched<'w> {
     pub round: Round,
     /// The file for the page; it is written on the output if none is named.
     pub page: Option<&'w str>,
+    /// Another body for the `EQU` lines of a name in the older warrior's source, as `NAME=VALUE`, if one is given.
+    pub define: Option<&'w str>,
 }
 
 /// The sources of two warriors, and which turns of a round of their match are written.
@@ -283,6 +212,8 @@ pub struct Traced<'w> {
     /// How many turns, the last ones of the round; all if it is `None`.
     pub last: Option<u32>,
     pub form: Form,
+    /// Another body for the `EQU` lines of a name in the older warrior's source, as `NAME=VALUE`, if one is given.
+    pub define: Option<&'w str>,
 }
 
 /// A round of a match.
@@ -298,26 +229,6 @@ pub enum Round {
     Tied,
 }
 
-/// The files of a hill and of its copy.
-#[derive(Clone, Copy)]
-pub struct Copied<'w> {
-    pub hill: &'w str,
-    /// Nothing may have this name.
-    pub new: &'w str,
-    /// Whether its kept results are looked at first.
-    pub audit: bool,
-}
-
-/// The files of a hill and of a new one with another seed.
-#[derive(Clone, Copy)]
-pub struct Reseeded<'w> {
-    pub hill: &'w str,
-    /// Nothing may have this name.
-    pub new: &'w str,
-    /// The seed of the new one; one is drawn if it is `None`.
-    pub seed: Option<u32>,
-}
-
 /// The sources of a field, and how its warriors fight each other.
 #[derive(Drop)]
 pub struct Ranking<'w> {
@@ -325,6 +236,28 @@ pub struct Ranking<'w> {
     pub field: Vec<Source<'w>>,
     /// Whether each match is played in the other order too.
     pub both: bool,
+    /// The layout that is asked for, if one is.
+    pub view: Option<View>,
+    /// Whether the table of matches is written too: the rounds that each warrior won against each other one.
+    pub matches: bool,
+    /// The part of the matches that is played, if not all are. Then there is no layout and no table of matches.
+    pub part: Option<Part>,
+}
+
+/// A part of a work, and how many parts there are.
+#[derive(Clone, Copy)]
+pub struct Part {
+    /// The first is 1.
+    pub number: u32,
+    /// At least the number.
+    pub count: u32,
+}
+
+/// The files of the parts of a field's matches.
+#[derive(Drop)]
+pub struct Joined<'w> {
+    /// In the order of the command line; one or more.
+    pub parts: Vec<Source<'w>>,
     /// The layout that is asked for, if one is.
     pub view: Option<View>,
 }

@@ -1,12 +1,12 @@
-//! What the arguments that `clap` took give a service, or one session.
+//! How a hill is served, and what the arguments that `clap` took give a service, or one session.
 
 ghost use Rattle.std.specs.{Prelude.{◌≡◌, ◌↔◌, [], Some, codes, map, option_map, unwrap_or, IfOk, IsTrue}, Net.Addr.ipv4_octets};
 ghost use Rattle.{clap.specs.Words.{all_of, first_of, found_of, one_of, rows_of}, koth_words.specs.Options.{number_below, number_given, number_or}};
-ghost use Rattle.koth_words.specs.Words.{draws_seed, has_flag, text_or_none, AreOfMany, HasAddress, IsAddress, IsOfMany, WritesAddress};
+ghost use Rattle.koth_words.specs.Words.{draws_seed, form_under, has_flag, text_or_none, AreOfMany, HasAddress, IsAddress, IsOfMany, WritesAddress};
 
-use crate::given::{file_named, flag_given, option_given, text_given, texts_given};
+use crate::given::{file_named, flag_given, form_under, option_given, text_given, texts_given};
 use crate::options::{number_given, number_if_given};
-use crate::requests::{Service, Session};
+use crate::requests::Form;
 use clap::ArgMatches;
 use koth_options::default_steps;
 use std::alloc::{AllocError, Global};
@@ -25,6 +25,53 @@ pub const STEPS: u32 = default_steps!(number);
 
 /// The address to listen at, unless `--listen` is given.
 const THIS_MACHINE: &str = "127.0.0.1";
+
+/// The file of a hill, and how it is served.
+#[derive(Drop)]
+pub struct Service<'w> {
+    pub hill: &'w str,
+    /// 0 to 65,535; with 0 the system finds one.
+    pub port: u16,
+    /// Most peers that are served at once; with 1 it is one connection after the other.
+    pub peers: u32,
+    /// Most peers of one address that are served at once; further ones are refused. `None` for no limit.
+    pub peers_per_address: Option<u32>,
+    /// How many steps the assembly of a source may take.
+    pub steps: u32,
+    /// The address to listen at.
+    pub listen: IpAddr,
+    /// Connections to serve before the service ends; `None` for no limit.
+    pub connections: Option<u32>,
+    /// The port for browsers, 0 to 65,535; with 0 the system finds one. `None` for no pages.
+    pub http: Option<u32>,
+    /// The names of this machine that requests of browsers may be for, in the order of the command line.
+    pub hosts: Vec<&'w str>,
+    /// Whether browsers see rounds too: their pages have both warriors whole.
+    pub replays: bool,
+    /// The title of the hill's page, if one is given.
+    pub title: Option<&'w str>,
+    /// Where peers submit by the hill's page, if that is given: a host and a port, with a colon between them.
+    pub peers_at: Option<&'w str>,
+    /// Whether no line is written for a connection.
+    pub quiet: bool,
+    /// The form of these lines.
+    pub log_format: Form,
+    /// Whether the hill is created first if there is no file.
+    pub create: bool,
+    /// Whether the seed of a hill that is created is drawn, in place of that of the settings: none is given.
+    pub draw_seed: bool,
+}
+
+/// The file of a hill, and how one session on it is served.
+#[derive(Clone, Copy)]
+pub struct Session<'w> {
+    pub hill: &'w str,
+    /// Seconds for which the hill's lock is tried again if another program has it, at most 3,600; 0 if that isn't asked
+    /// for.
+    pub wait: u32,
+    /// How many steps the assembly of a source may take.
+    pub steps: u32,
+}
 
 pub(crate) fn service_named<'w>(
     heap: Global,
@@ -56,6 +103,8 @@ pub(crate) fn service_named<'w>(
     ensures peers_at { IfOk result (λ service. option_map (λ text. text.now) service.peers_at
         ≡ first_of (codes "peers-at") (rows_of (found_of matches.now))) }
     ensures quiet { IfOk result (λ service. service.quiet ≡ has_flag (codes "quiet") (rows_of (found_of matches.now))) }
+    ensures log_format { IfOk result (λ service. service.log_format
+        ≡ form_under (codes "log-format") (rows_of (found_of matches.now))) }
     ensures create { IfOk result (λ service. service.create
         ≡ has_flag (codes "create") (rows_of (found_of matches.now))) }
     ensures draw_seed { IfOk result (λ service. service.draw_seed ≡ draws_seed (rows_of (found_of matches.now))) }
@@ -74,6 +123,7 @@ pub(crate) fn service_named<'w>(
         title: text_given(matches, "title"),
         peers_at: text_given(matches, "peers-at"),
         quiet: flag_given(matches, "quiet"),
+        log_format: form_under(matches, "log-format"),
         create: flag_given(matches, "create"),
         draw_seed: draws_seed(matches),
     })

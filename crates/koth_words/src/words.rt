@@ -5,16 +5,19 @@ ghost use Rattle.clap.specs.Words.{found_of, kind_of, rows_of, subcommand_name_o
 ghost use Rattle.koth_words.specs.Words.{given_in, koth_app, AreClear, AreTaken, AreWrong, AskForHelp, Asks, AsksBy, HasAddress, IsCommandName, IsHelp, IsRefusal, NamesCommand};
 
 use crate::clear::unclear;
+use crate::contests::{
+    assembled_named, candidates_named, checked_named, fighters_named, joined_named, ranking_named,
+    traced_named, watched_named,
+};
 use crate::given::{
-    audited_named, checked_named, copied_named, creation_named, fighters_named, file_named,
-    is_remote, migration_named, option_given, ranking_named, reseeded_named, sent_named,
-    shown_at_named, shown_named, submission_named, traced_named, watched_named,
+    audited_named, copied_named, creation_named, file_named, flag_given, is_remote,
+    migration_named, option_given, reseeded_named, sent_named, shown_at_named, shown_named,
+    submission_named, text_given,
 };
 use crate::habits::{begin_with_source, fight_of, habit_among};
 use crate::requests::{NoRequest, Request, View};
 use crate::serving::{service_named, session_named};
 use crate::settings::{given_named, settings_given};
-use crate::sources::source_named;
 use clap::error::ErrorKind;
 use clap::{ArgMatches, Error};
 use koth_options::koth_command;
@@ -74,15 +77,12 @@ fn asked<'w>(heap: Global, name: &str, given: &ArgMatches<'w>) -> Result<Request
     ensures { IfOk result (Asks (name.now, rows_of (found_of given.now))) }
 {
     match name {
-        "asm" => Ok(Request::Asm(given_named(given), source_named(given, "SOURCE"))),
+        "asm" => Ok(Request::Asm(given_named(given), assembled_named(given))),
         "check" => match checked_named(heap, given) {
             Ok(checked) => Ok(Request::Check(given_named(given), checked)),
             Err(error) => Err(error),
         },
-        "fight" => match fighters_named(heap, given) {
-            Ok(fighters) => Ok(Request::Fight(given_named(given), fighters)),
-            Err(error) => Err(error),
-        },
+        "fight" => fight_asked(heap, given),
         "create" => Ok(Request::Create(given_named(given), creation_named(given))),
         "submit" => Ok(submission_asked(given)),
         "show" => Ok(table_asked(given)),
@@ -96,14 +96,44 @@ fn asked<'w>(heap: Global, name: &str, given: &ArgMatches<'w>) -> Result<Request
         "page" => Ok(Request::Page(file_named(given, "FILE"))),
         "replay" => Ok(Request::Replay(given_named(given), watched_named(given))),
         "trace" => Ok(Request::Trace(given_named(given), traced_named(given))),
-        "try" => Ok(Request::Try(submission_named(given))),
+        "try" => Ok(Request::Try(submission_named(given), text_given(given, "define"))),
         "copy" => Ok(Request::Copy(copied_named(given))),
         "reseed" => Ok(Request::Reseed(reseeded_named(given))),
-        "rank" => match ranking_named(heap, given) {
-            Ok(ranking) => Ok(Request::Rank(given_named(given), ranking)),
-            Err(error) => Err(error),
-        },
+        "rank" => rank_asked(heap, given),
+        "explain" => Ok(Request::Explain(text_given(given, "KIND"))),
         _ => unreachable!(),
+    }
+}
+
+/// The request of `fight`: of one older warrior, or of many.
+fn fight_asked<'w>(heap: Global, given: &ArgMatches<'w>) -> Result<Request<'w>, AllocError>
+    ensures { IfOk result (Asks (codes "fight", rows_of (found_of given.now))) }
+{
+    if flag_given(given, "many") {
+        return match candidates_named(heap, given) {
+            Ok(candidates) => Ok(Request::Many(given_named(given), candidates)),
+            Err(error) => Err(error),
+        };
+    }
+    match fighters_named(heap, given) {
+        Ok(fighters) => Ok(Request::Fight(given_named(given), fighters)),
+        Err(error) => Err(error),
+    }
+}
+
+/// The request of `rank`: of a field, or of the parts of its matches.
+fn rank_asked<'w>(heap: Global, given: &ArgMatches<'w>) -> Result<Request<'w>, AllocError>
+    ensures { IfOk result (Asks (codes "rank", rows_of (found_of given.now))) }
+{
+    if flag_given(given, "join") {
+        return match joined_named(heap, given) {
+            Ok(joined) => Ok(Request::Join(joined)),
+            Err(error) => Err(error),
+        };
+    }
+    match ranking_named(heap, given) {
+        Ok(ranking) => Ok(Request::Rank(given_named(given), ranking)),
+        Err(error) => Err(error),
     }
 }
 

@@ -1,12 +1,17 @@
 //! What is to blame for a refusal, and the sentence that explains it.
 
+ghost use Rattle.std.specs.Prelude.{IfOk};
+ghost use Rattle.{redcode_lines.specs.Place.line_text, redcode_blame.specs.Place.IsOfLine};
+
 use crate::blocks::{duplicate_name, for_limit, unmatched};
 use crate::counts::count;
 use crate::equs::{bad_equ, equ_limit};
 use crate::expressions::expression;
 use crate::operands::{extra_text, missing_operand};
+use crate::place::placed;
 use crate::said::{Part, say};
-use crate::statements::{bad_modifier, bad_operation, bad_token, pspace};
+use crate::statements::{bad_modifier, bad_operation, pspace};
+use crate::tokens::bad_token;
 use crate::warriors::{bad_start, empty, say_assertion, source_too_long, too_long};
 use redcode_lines::Span;
 use redcode_scene::{Row, Scene};
@@ -59,18 +64,19 @@ pub(crate) fn told_parts<'p>(
     Told { span, parts }
 }
 
-/// What is to blame for a fault of a source.
+/// What is to blame for a fault of a source: its place is from a token of that line to one of its tokens, or the line.
+/// It fails when memory runs out.
 pub fn blame_of<A: Allocator + Copy>(
     scene: &Scene<'_, A>,
     fault: AsmFault,
-) -> Result<Blame<A>, AllocError> {
+) -> Result<Blame<A>, AllocError>
+    ensures { IfOk result (λ blame. IsOfLine (line_text scene.now.source.now fault.line) blame.span) }
+{
     let told = told_of(scene, fault)?;
+    let span = placed(scene, fault.line, told.span)?;
     let mut sentence = Vec::new(scene.alloc);
     match say_all(&mut sentence, scene, fault, &told.parts) {
-        Ok(()) => Ok(Blame {
-            span: told.span,
-            sentence,
-        }),
+        Ok(()) => Ok(Blame { span, sentence }),
         Err(error) => Err(error),
     }
 }
@@ -92,7 +98,7 @@ fn say_all<A: Allocator + Copy>(
 /// What is told of a fault of a source.
 fn told_of<'s, A: Allocator + Copy>(scene: &Scene<'s, A>, fault: AsmFault) -> Answer<'s> {
     match fault.kind {
-        AsmKind::SourceTooLong => Ok(source_too_long(scene)),
+        AsmKind::SourceTooLong => Ok(source_too_long()),
         AsmKind::Empty => Ok(empty(scene)),
         AsmKind::TooLong => Ok(too_long(scene)),
         kind => match scene.row(fault.line) {
@@ -115,10 +121,10 @@ fn told_on<'s, A: Allocator + Copy>(
         AsmKind::BadEqu => Ok(bad_equ(row)),
         AsmKind::EquLimit => equ_limit(scene, row),
         AsmKind::ForCount(kind) => count(scene, row, kind),
-        AsmKind::BadToken => Ok(bad_token(scene, row)),
+        AsmKind::BadToken => bad_token(scene, row, fault),
         AsmKind::BadOperation => bad_operation(scene, row),
         AsmKind::Pspace => Ok(pspace(row)),
-        AsmKind::BadModifier => Ok(bad_modifier(row)),
+        AsmKind::BadModifier => bad_modifier(scene, row, fault),
         AsmKind::MissingOperand => missing_operand(scene, row, fault),
         AsmKind::Expression(kind) => expression(scene, row, fault, kind),
         AsmKind::ExtraText => extra_text(scene, row, fault),

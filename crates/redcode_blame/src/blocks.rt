@@ -1,9 +1,9 @@
 //! Faults of the walk over a source's lines: blocks, their limit, and names that are defined twice.
 
-use crate::blame::{Answer, Told, told_parts, told_text, told_word};
+use crate::blame::{Answer, END, Told, told_parts, told_text, told_word};
 use crate::said::Part;
 use redcode_expand::predefined;
-use redcode_lines::{Span, has_and, has_text, is_name};
+use redcode_lines::{Span, has_text, is_name};
 use redcode_scene::{
     Definer, Row, Scene, definer_before, is_joined, is_label, misspelt_word, nearest_word,
 };
@@ -60,6 +60,7 @@ pub(crate) fn duplicate_name<'s, A: Allocator + Copy>(
     row: &Row<'_, 's>,
 ) -> Answer<'s> {
     let labels = row.reading.labels();
+    let mut own = None;
     for (i, label) in labels.iter().enumerate() {
         if !is_label(scene, &row.reading, &labels[..i], label, &labels[i + 1..]) {
             continue;
@@ -67,8 +68,9 @@ pub(crate) fn duplicate_name<'s, A: Allocator + Copy>(
         if let Some(told) = defined_label(scene, row, label)? {
             return Ok(told);
         }
+        own = own.or(Some(label));
     }
-    Ok(defined_by_copies(scene, row))
+    defined_by_copies(scene, row, own)
 }
 
 /// A label that is defined before its line, or before on it.
@@ -88,8 +90,8 @@ fn defined_label<'s, A: Allocator + Copy>(
     }
     match definer_before(scene, label.text, number)? {
         Definer::Line(line) => Ok(Some(defined_in(scene.alloc, row, label, line)?)),
-        Definer::Joined(_) => {
-            let said = "a copy of a block above has joined its labels to this name already";
+        Definer::Joined => {
+            let said = "a label to which a counter is joined has this name already";
             Ok(Some(told_text(span, said)))
         }
         Definer::Unknown => Ok(Some(told_word(span, label.text, " is defined already"))),
@@ -152,21 +154,48 @@ fn operation_meant<A: Allocator + Copy>(
     nearest_word(alloc, name.text)
 }
 
-/// Labels that copies of blocks define again.
-fn defined_by_copies<'s, A: Allocator + Copy>(scene: &Scene<'_, A>, row: &Row<'_, 's>) -> Told<'s> {
+/// Labels that copies of blocks define again; `own` is the first to which nothing is joined.
+fn defined_by_copies<'s, A: Allocator + Copy>(
+    scene: &Scene<'_, A>,
+    row: &Row<'_, 's>,
+    own: Option<&Token<'s>>,
+) -> Answer<'s> {
     let labels = row.reading.labels();
-    let span = row.spans(labels);
     if let Some(name) = no_counter(scene, row.reading.number, labels) {
         let said =
             " is the counter of no block around this line, so `&` joins nothing: each copy defines these anew";
-        return told_word(span, name.text, said);
+        return Ok(told_word(row.spans(labels), name.text, said));
     }
-    let said = if has_and(labels) {
-        "a copy of the block joins these to a name that is defined already"
-    } else {
-        "each copy of the block defines this anew; a name of its own ends with `&` and the counter"
+    match own {
+        Some(label) => defined_anew(scene.alloc, row, label),
+        None => {
+            let said = "a copy of the block joins these to a name that is defined already";
+            Ok(told_text(row.spans(labels), said))
+        }
+    }
+}
+
+/// A label that each copy of a block defines again.
+fn defined_anew<'s, A: Allocator + Copy>(
+    alloc: A,
+    row: &Row<'_, 's>,
+    label: &Token<'s>,
+) -> Answer<'s> {
+    let span = row.span(label);
+    let Some(word) = operation_meant(alloc, row, label)? else {
+        let said =
+            "each copy of the block defines this anew; a name of its own ends with `&` and the counter";
+        return Ok(told_text(span, said));
     };
-    told_text(span, said)
+    let parts = [
+        Part::Word(label.text),
+        Part::Text(" is defined anew by each copy of the block; did you mean the operation "),
+        Part::Word(word),
+        Part::Text("?"),
+        END,
+        END,
+    ];
+    Ok(Told { span, parts })
 }
 
 /// The first name after an `&` that is no counter, on the line of this number.

@@ -6,7 +6,7 @@ use crate::names::not_defined;
 use crate::shape::{Shaped, flawed, without_flaw};
 use redcode_expand::predefined;
 use redcode_lines::{behind_first, is_name, line_text, part_of};
-use redcode_scene::{Role, Row, Scene, definition, ends_join, flaw_of, is_joined};
+use redcode_scene::{Role, Row, Scene, definition, ends_join, flaw_of, is_joined, may_be_joined};
 use redcode_text::Token;
 use std::alloc::{AllocError, Allocator};
 use war_types::ExprFault;
@@ -111,8 +111,13 @@ fn unknown_why<A: Allocator + Copy>(scene: &Scene<'_, A>, name: &[u8]) -> Option
     if definition(scene, Role::Label, name, u32::MAX).is_some() {
         return Some(" is a label, and labels are not known in a count");
     }
-    definition(scene, Role::Equ, name, u32::MAX)?;
-    Some(" is defined by an `EQU` below, and is not known here")
+    if definition(scene, Role::Equ, name, u32::MAX).is_some() {
+        return Some(" is defined by an `EQU` below, and is not known here");
+    }
+    if may_be_joined(scene, name) {
+        return Some(" is a name to which a counter is joined, and is not known here");
+    }
+    None
 }
 
 /// The first name among these tokens that is neither predefined nor joined, nor a counter or the name of an `EQU` above this line.

@@ -1,9 +1,10 @@
 //! Faults of `EQU` lines, and of what their names stand for.
 
 use crate::blame::{Answer, Told, told_before, told_text, told_word};
-use redcode_lines::{behind_first, is_name, word_at};
+use redcode_lines::{behind_first, is_name, line_text, part_of, word_at};
 use redcode_scene::{
-    Role, Row, Scene, definition, is_limited, last_name, operands_in, probe_steps,
+    Role, Row, Scene, definition, ends_join, is_limited, last_name, operands_in, probe_steps,
+    with_joined,
 };
 use redcode_text::{Token, Word};
 use std::alloc::{AllocError, Allocator};
@@ -50,7 +51,7 @@ pub(crate) fn replaced_in<'l, 's>(row: &Row<'l, 's>) -> &'l [Token<'s>] {
 
 /// Operands of too many tokens, or a name that is left after the last round.
 pub(crate) fn equ_limit<'s, A: Allocator + Copy>(
-    scene: &Scene<'_, A>,
+    scene: &Scene<'s, A>,
     row: &Row<'_, 's>,
 ) -> Answer<'s> {
     let tokens = replaced_in(row);
@@ -60,8 +61,10 @@ pub(crate) fn equ_limit<'s, A: Allocator + Copy>(
     }
     match too_deep(scene, row, tokens)? {
         Some(name) => {
+            let span = row.spans(name);
+            let text = part_of(line_text(scene.source, row.reading.number), span);
             let said = " leads to itself again, or more than 16 deep, or to more than 512 tokens";
-            Ok(told_word(row.span(name), name.text, said))
+            Ok(told_word(span, text, said))
         }
         None => {
             let said =
@@ -71,19 +74,27 @@ pub(crate) fn equ_limit<'s, A: Allocator + Copy>(
     }
 }
 
-/// The first name of an `EQU` among these tokens for which the line is refused without the others.
+/// The first name among these tokens, with the counters that are joined to it, for which the line is refused without
+/// the others.
 fn too_deep<'t, 's, A: Allocator + Copy>(
     scene: &Scene<'_, A>,
     row: &Row<'_, '_>,
     tokens: &'t [Token<'s>],
-) -> Result<Option<&'t Token<'s>>, AllocError> {
+) -> Result<Option<&'t [Token<'s>]>, AllocError> {
+    let number = row.reading.number;
     let mut steps = probe_steps();
-    for token in tokens {
-        if !is_name(token) || definition(scene, Role::Equ, token.text, u32::MAX).is_none() {
+    for (i, token) in tokens.iter().enumerate() {
+        let name = with_joined(scene, number, &tokens[i..]);
+        let is_written = name.len() == 1;
+        if !is_name(token)
+            || ends_join(scene, number, &tokens[..i], token)
+            || is_written && definition(scene, Role::Equ, token.text, u32::MAX).is_none()
+        {
             continue;
         }
-        if is_limited(scene, row, tokens, token.text, &mut steps)? {
-            return Ok(Some(token));
+        let text = part_of(line_text(scene.source, number), row.spans(name));
+        if is_limited(scene, row, tokens, text, &mut steps)? {
+            return Ok(Some(name));
         }
     }
     Ok(None)

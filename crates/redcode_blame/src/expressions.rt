@@ -105,9 +105,9 @@ pub(crate) fn division_by_zero(span: Span, tokens: &[Token<'_>]) -> Told<'static
     told_text(span, said)
 }
 
-/// Whether a symbol is among these tokens.
-fn is_among(tokens: &[Token<'_>], symbol: &[u8]) -> bool {
-    tokens.iter().any(|token| has_text(token, symbol))
+/// Whether a token with this text is among these.
+pub(crate) fn is_among(tokens: &[Token<'_>], text: &[u8]) -> bool {
+    tokens.iter().any(|token| has_text(token, text))
 }
 
 /// A result that is too large.

@@ -3,7 +3,7 @@
 use crate::blame::{END, Told, told_before, told_text, told_word};
 use crate::said::Part;
 use redcode_lines::{Span, is_name, line_text, part_of};
-use redcode_scene::{Flaw, Judged, Row, Scene, flaw_of, is_operation, nearest_word};
+use redcode_scene::{Flaw, Judged, Row, Scene, flaw_of, is_operation, is_reserved, nearest_word};
 use redcode_text::{Token, TokenKind, mode_named};
 use std::alloc::{AllocError, Allocator};
 
@@ -129,15 +129,15 @@ fn begins_words(tokens: &[Token<'_>], token: &Token<'_>) -> bool {
     false
 }
 
-/// A reserved word in lower case before an operation, where a label was meant.
+/// A reserved word in lower case before another one, where a label was meant.
 pub(crate) fn reserved_label<'s, A: Allocator + Copy>(
     alloc: A,
     row: &Row<'_, 's>,
 ) -> Result<Option<Told<'s>>, AllocError> {
-    let [name, operation, ..] = row.reading.tokens else {
+    let [name, word, ..] = row.reading.tokens else {
         return Ok(None);
     };
-    if row.reading.word.is_none() || !is_name(operation) || !is_operation(operation.text) {
+    if row.reading.word.is_none() || !is_name(word) || !is_reserved(word.text) {
         return Ok(None);
     }
     match nearest_word(alloc, name.text)? {

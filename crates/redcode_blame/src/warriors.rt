@@ -1,31 +1,32 @@
 //! What is wrong with a warrior, or with a source as a whole.
 
-use crate::blame::{END, Told, told_text};
+use crate::blame::{END, Told, told_parts, told_text};
+use crate::expressions::is_among;
 use crate::said::{Part, say};
 use redcode_asm::said_by;
 use redcode_expand::{LineKind, SOURCE_LIMIT};
-use redcode_lines::{Span, has_text, is_name};
-use redcode_scene::{Judged, Row, Scene, judged_line, operands_in};
+use redcode_lines::{Reading, Span, is_name};
+use redcode_scene::{Judged, Row, Scene, judged_line, operands_in, with_joined};
 use redcode_statement::Statement;
 use redcode_text::{Token, value};
 use std::alloc::{AllocError, Allocator};
 use war_types::AsmFault;
 
+/// Most tokens for which a name stands that are said.
+const MOST_SAID: usize = 16;
+
 /// No place of a line.
 const NOWHERE: Span = Span { from: 0, width: 0 };
 
-/// A source of too many bytes.
-pub(crate) fn source_too_long<A: Allocator + Copy>(scene: &Scene<'_, A>) -> Told<'static> {
-    let parts = [
-        Part::Text("the source has "),
-        Part::Number(count_of(scene.source.len())),
-        Part::Text(" bytes, and may have "),
-        Part::Number(count_of(SOURCE_LIMIT)),
-        END,
-        END,
-    ];
-    let span = NOWHERE;
-    Told { span, parts }
+/// A source of too many bytes: no more of it is read.
+pub(crate) fn source_too_long() -> Told<'static> {
+    let limit = Part::Number(count_of(SOURCE_LIMIT));
+    told_parts(
+        NOWHERE,
+        Part::Text("the source has more than "),
+        limit,
+        Part::Text(" bytes"),
+    )
 }
 
 /// A source without an instruction.
@@ -92,53 +93,77 @@ pub(crate) fn say_assertion<A: Allocator + Copy>(
         return Ok(());
     };
     match judged_line(scene, &row, fault)? {
-        Some(line) => say_values(said, &line, row.reading.tokens),
+        Some(line) => say_values(said, scene, &line, &row.reading),
         None => Ok(()),
     }
 }
 
-/// Says the values of the names in an assertion, of which these tokens are written.
+/// Says the values of the names in an assertion, as it is written.
 fn say_values<'s, A: Allocator + Copy>(
     said: &mut Vec<u8, A>,
+    scene: &Scene<'_, A>,
     line: &Judged<'_, 's, A>,
-    written: &[Token<'s>],
+    reading: &Reading<'_, 's>,
 ) -> Result<(), AllocError> {
     let mut mark = ": ";
-    for (i, token) in written.iter().enumerate() {
+    for (i, token) in reading.tokens.iter().enumerate() {
         let stands = line.standing_for(token);
-        if stands.is_empty() || !is_name(token) || stands_in(&written[..i], token.text) {
+        if !may_say(&reading.tokens[..i], token, stands) {
             continue;
         }
         if let Ok(value) = value(stands, &line.names()) {
-            let parts = [
-                Part::Text(mark),
-                Part::Bytes(name_of(token, stands)),
-                Part::Text(" is "),
-                Part::Number(value),
-            ];
-            say(said, &parts)?;
+            let name = with_joined(scene, reading.number, &reading.tokens[i..]);
+            say(said, &[Part::Text(mark)])?;
+            say_name(said, name, stands)?;
+            say(said, &[Part::Text(" is ")])?;
+            say_meaning(said, stands, value)?;
             mark = ", ";
         }
     }
     Ok(())
 }
 
-/// The name that these tokens stand for: one that is joined to counters, or that of the token itself.
-fn name_of<'t>(token: &Token<'t>, stands: &[Token<'t>]) -> &'t [u8] {
-    match stands {
-        [joined] if is_name(joined) && joined.text.starts_with(token.text) => joined.text,
-        _ => token.text,
-    }
+/// Whether a token is a name that stands for some tokens, not too many, and is not among those before it.
+fn may_say(before: &[Token<'_>], token: &Token<'_>, stands: &[Token<'_>]) -> bool {
+    is_name(token)
+        && !stands.is_empty()
+        && stands.len() <= MOST_SAID
+        && !is_among(before, token.text)
 }
 
-/// Whether a token with this text is among the tokens.
-fn stands_in(tokens: &[Token<'_>], text: &[u8]) -> bool {
-    for token in tokens {
-        if has_text(token, text) {
-            return true;
-        }
+/// Says a name: that to which its counters are joined, or else as these tokens have it written.
+fn say_name<A: Allocator>(
+    said: &mut Vec<u8, A>,
+    written: &[Token<'_>],
+    stands: &[Token<'_>],
+) -> Result<(), AllocError> {
+    if let ([first, _, ..], [joined]) = (written, stands)
+        && is_name(joined)
+        && joined.text.starts_with(first.text)
+    {
+        return say(said, &[Part::Bytes(joined.text)]);
     }
-    false
+    say_tokens(said, written)
+}
+
+/// Says these tokens, without blanks.
+fn say_tokens<A: Allocator>(said: &mut Vec<u8, A>, tokens: &[Token<'_>]) -> Result<(), AllocError> {
+    for token in tokens {
+        say(said, &[Part::Bytes(token.text)])?;
+    }
+    Ok(())
+}
+
+/// Says the value of one token; of more than one how they read, since what stands around them may part them.
+fn say_meaning<A: Allocator>(
+    said: &mut Vec<u8, A>,
+    stands: &[Token<'_>],
+    value: i64,
+) -> Result<(), AllocError> {
+    match stands {
+        [_] => say(said, &[Part::Number(value)]),
+        _ => say_tokens(said, stands),
+    }
 }
 
 /// The start that a line gives.

@@ -8,8 +8,10 @@ use bumpalo::Bump;
 use redcode_asm::warrior_from;
 use redcode_blame::{Scene, told_faults};
 use redcode_expand::{Expanded, Steps, expand_within};
+use redcode_lines::{Span, part_of};
+use redcode_scene::{Role, definition, is_operation, is_reserved};
 use std::alloc::{AllocError, Allocator};
-use war_types::{AsmFault, AsmKind, Settings};
+use war_types::{AsmFault, AsmKind, ExprFault, Settings};
 
 /// Most names that are defined twice and passed over, and lines beside them. For each the source is written out once more.
 const MOST: u32 = 10;
@@ -187,7 +189,8 @@ fn put_from<A: Allocator + Copy>(
     put_all(scene, source, faults.as_slice(), all)
 }
 
-/// Puts these faults, but for those of lines that are told already.
+/// Puts these faults, but for those of lines that are told already, and those that may be there only because a name or a
+/// line was blanked out.
 fn put_all<A: Allocator + Copy>(
     scene: &Scene<'_, A>,
     source: &[u8],
@@ -196,21 +199,71 @@ fn put_all<A: Allocator + Copy>(
 ) -> Result<(), AllocError>
     ensures { OnOk result (PutsFurther source.now all.old.items all.new.items) }
 {
+    let lacks = has_lost(scene, source);
     for fault in faults {
-        put_new(scene, source, *fault, all)?;
+        put_new(scene, source, *fault, lacks, all)?;
     }
     Ok(())
 }
 
+/// Whether a fault may be there only because a name isn't defined any more, or a line is gone.
+fn may_follow(kind: AsmKind) -> bool {
+    matches!(
+        kind,
+        AsmKind::Expression(ExprFault::UnknownName | ExprFault::DivideByZero)
+            | AsmKind::ForCount(ExprFault::UnknownName | ExprFault::DivideByZero)
+            | AsmKind::AssertFalse
+            | AsmKind::BadStart
+    )
+}
+
+/// Whether the text lacks a name of the source that nothing defines in the text, or an operation.
+fn has_lost<A: Allocator + Copy>(scene: &Scene<'_, A>, source: &[u8]) -> bool {
+    let mut from: u32 = 0;
+    let mut width: u32 = 0;
+    for (old, new) in source.iter().zip(scene.source) {
+        if old != new && (old.is_ascii_alphanumeric() || *old == b'_') {
+            width = width.saturating_add(1);
+            continue;
+        }
+        if is_lost(scene, part_of(source, Span { from, width })) {
+            return true;
+        }
+        from = from.saturating_add(width).saturating_add(1);
+        width = 0;
+    }
+    is_lost(scene, part_of(source, Span { from, width }))
+}
+
+/// Whether a part that the text lacks is an operation, or a name that is neither a label of what is written out nor that
+/// of an `EQU`.
+fn is_lost<A: Allocator + Copy>(scene: &Scene<'_, A>, part: &[u8]) -> bool {
+    let is_number = match part {
+        [first, ..] => first.is_ascii_digit(),
+        [] => true,
+    };
+    if is_number || is_reserved(part) {
+        return is_operation(part);
+    }
+    let is_label = match &scene.expanded {
+        Some(expanded) => expanded.label(part).is_some(),
+        None => false,
+    };
+    !is_label && definition(scene, Role::Equ, part, u32::MAX).is_none()
+}
+
+/// Puts this fault, unless one of its line is told already, or it may be there only because the text lacks something.
 fn put_new<A: Allocator + Copy>(
     scene: &Scene<'_, A>,
     source: &[u8],
     fault: AsmFault,
+    lacks: bool,
     all: &mut Vec<Diagnosis<A>, A>,
 ) -> Result<(), AllocError>
     ensures { OnOk result (PutsFurther source.now all.old.items all.new.items) }
 {
-    if fault.line == 0 || all.len() >= MOST_TOLD || is_told(all.as_slice(), fault.line) {
+    let follows = lacks && may_follow(fault.kind);
+    if follows || fault.line == 0 || all.len() >= MOST_TOLD || is_told(all.as_slice(), fault.line) {
         return Ok(());
     }
     let diagnosis = told(scene, source, fault)?;

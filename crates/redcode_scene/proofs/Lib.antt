@@ -4,3 +4,9 @@ pub mod Shown
 pub mod First
 -- the definition on small sources
 mod Rows
+-- what is found of all names is what is suggested of them
+mod Suggested
+-- what is shown of an expansion has its labels
+mod Labelled
+-- texts of UTF-8, and the names of lines
+mod Texts

@@ -1,23 +1,10 @@
 //! Where a source defines its names.
 
-use crate::nearest::Nearest;
+use crate::definers::is_label;
 use crate::scene::Scene;
-use redcode_expand::Expanded;
 use redcode_lines::{LineForm, Reading, is_name};
 use redcode_text::{Token, Word};
-use std::alloc::{AllocError, Allocator};
-
-/// The predefined names.
-const PREDEFINED: [&str; 8] = [
-    "CORESIZE",
-    "MAXPROCESSES",
-    "MAXCYCLES",
-    "MAXLENGTH",
-    "MINDISTANCE",
-    "ROUNDS",
-    "WARRIORS",
-    "CURLINE",
-];
+use std::alloc::Allocator;
 
 /// What a name may be.
 #[derive(Clone, Copy)]
@@ -40,25 +27,40 @@ pub fn definition<A: Allocator + Copy>(
         if line.number() >= limit {
             break;
         }
-        if defines(&line.reading(), role, name) {
+        if defines(scene, &line.reading(), role, name) {
             return Some(line.number());
         }
     }
     None
 }
 
-/// Whether a line defines this name so.
-fn defines(line: &Reading<'_, '_>, role: Role, name: &[u8]) -> bool {
+/// Whether a line defines this name so, as it is written.
+fn defines<A: Allocator + Copy>(
+    scene: &Scene<'_, A>,
+    line: &Reading<'_, '_>,
+    role: Role,
+    name: &[u8],
+) -> bool {
     if !matches!(line.form, LineForm::Statement) {
         return false;
     }
-    let is_last = last_name(line.labels()) == Some(name);
-    match (role, line.word) {
-        (Role::Equ, Some(Word::Equ)) | (Role::Counter, Some(Word::For)) => is_last,
-        (Role::Equ | Role::Counter, _) => false,
-        (Role::Label, Some(Word::Equ | Word::For)) => !is_last && is_among(line.labels(), name),
-        (Role::Label, _) => is_among(line.labels(), name),
+    let labels = line.labels();
+    for (i, token) in labels.iter().enumerate() {
+        let behind = &labels[i + 1..];
+        let is_last = last_name(behind).is_none();
+        let is_such = match (role, line.word) {
+            (Role::Counter, Some(Word::For)) => is_name(token) && is_last,
+            (Role::Equ, Some(Word::Equ)) => is_last
+                && is_label(scene, line, &labels[..i], token, behind),
+            (Role::Counter | Role::Equ, _) => false,
+            (Role::Label, Some(Word::Equ)) if is_last => false,
+            (Role::Label, _) => is_label(scene, line, &labels[..i], token, behind),
+        };
+        if is_such && token.text == name {
+            return true;
+        }
     }
+    false
 }
 
 /// The last name among these tokens.
@@ -80,50 +82,4 @@ pub fn is_among(tokens: &[Token<'_>], name: &[u8]) -> bool {
         }
     }
     false
-}
-
-/// The name nearest to one that nothing defines: a label, the name of an `EQU` or a predefined name.
-pub fn nearest_name<'s, A: Allocator + Copy>(
-    scene: &Scene<'s, A>,
-    name: &[u8],
-) -> Result<Option<&'s [u8]>, AllocError> {
-    let mut nearest = Nearest::new(name);
-    for line in &scene.lines {
-        offer_labels(scene, &mut nearest, line.reading())?;
-    }
-    nearest.offer_each(scene.alloc, &PREDEFINED)?;
-    Ok(nearest.found())
-}
-
-/// Offers the names that a line defines.
-fn offer_labels<'s, A: Allocator + Copy>(
-    scene: &Scene<'s, A>,
-    nearest: &mut Nearest<'_, 's>,
-    line: Reading<'_, 's>,
-) -> Result<(), AllocError> {
-    if !matches!(line.form, LineForm::Statement) {
-        return Ok(());
-    }
-    if let (Some(Word::Equ), Some(name)) = (line.word, last_name(line.labels())) {
-        nearest.offer(scene.alloc, name)?;
-    }
-    match &scene.expanded {
-        Some(expanded) => offer_defined(scene.alloc, expanded, nearest, line.labels()),
-        None => Ok(()),
-    }
-}
-
-/// Offers those of these names that are labels.
-fn offer_defined<'s, A: Allocator + Copy>(
-    alloc: A,
-    expanded: &Expanded<'_, A>,
-    nearest: &mut Nearest<'_, 's>,
-    labels: &[Token<'s>],
-) -> Result<(), AllocError> {
-    for label in labels {
-        if is_name(label) && expanded.label(label.text).is_some() {
-            nearest.offer(alloc, label.text)?;
-        }
-    }
-    Ok(())
 }

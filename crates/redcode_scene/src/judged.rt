@@ -56,6 +56,11 @@ impl<'e, 's, A: Allocator + Copy> Judged<'e, 's, A> {
         operands_of(self.line.kind, self.tokens.as_slice())
     }
 
+    /// All of its tokens, from the word on.
+    pub fn tokens(&self) -> &[Token<'s>] {
+        self.tokens.as_slice()
+    }
+
     /// What names stand for on it.
     pub fn names(&self) -> Labels<'e, 's, A> {
         labels_on(self.expanded, self.settings, self.line)

@@ -4,14 +4,15 @@
 //! that a fault is of; `judged` has that line with the places from which its tokens come, and `copies` the copy of a
 //! block in which it stands. `probe` writes out the source with another line in place of one of its own, and `definers`
 //! finds by it what has defined a name before. `operands` are those of a line, `flaw` is why tokens make no expression,
-//! `definitions` tell where a name is defined, `nearest` finds the name or the word that was probably meant, and
-//! `misspelt` a `FOR` or `ROF` that was.
+//! `definitions` tell where a name is defined, `nearest` finds the reserved word that was probably meant, `known` the
+//! name, and `misspelt` a `FOR` or `ROF` that was.
 //!
 //! What a line says and stands for is `redcode_asm`'s, so that nothing here can disagree with the assembler.
 //!
-//! The main clauses: `told_faults` answers the faults of `Faults` in `specs`, and the reserved word that is told as the
-//! one meant is that of `Nearest` (`nearest_text`). All else is help and no promise, and no clause speaks of it. Nothing here says a sentence, or
-//! changes what is refused.
+//! The main clauses: `told_faults` answers the faults of `Faults` in `specs`. The name or the reserved word that is told
+//! as the one meant may be told, and none is nearer (`Suggests` of `nearest_name` and `nearest_word`). The line that is
+//! told as the one that defines a name defines it in what is written out (`IsDefiner` of `definer_before`). All else is
+//! help and no promise, and no clause speaks of it. Nothing here says a sentence, or changes what is refused.
 #![tactic(auto)]
 
 mod copies;
@@ -20,6 +21,7 @@ mod definitions;
 mod flaw;
 mod judge;
 mod judged;
+mod known;
 mod misspelt;
 mod nearest;
 mod operands;
@@ -27,11 +29,14 @@ mod probe;
 mod scene;
 
 pub use copies::{Around, Copied, blocks_around, copy_of, is_counter_at};
-pub use definers::{Definer, definer_before, ends_join, is_joined, is_label};
-pub use definitions::{Role, definition, is_among, last_name, nearest_name};
+pub use definers::{
+    Definer, definer_before, ends_join, is_joined, is_label, may_be_joined, with_joined,
+};
+pub use definitions::{Role, definition, is_among, last_name};
 pub use flaw::{Flaw, flaw_of};
 pub use judge::{Faulty, faulty_line, labels_on, told_faults};
 pub use judged::{Judged, judged_line};
+pub use known::nearest_name;
 pub use misspelt::misspelt_word;
 pub use nearest::{is_operation, is_reserved, nearest_word};
 pub use operands::{Parted, at_comma, kind_of, operand_at, operands_in, without_mode};

@@ -1,9 +1,9 @@
 //! The nearest name to one that is misspelt.
 
-ghost use Rattle.std.specs.Prelude.{◌≡◌, IfOk, IfSome, Some, None, map, option_map};
-ghost use Rattle.redcode_scene.specs.Nearest.{are_apart, are_exchanged, may_tell, near, nearer, nearest_from, nearest_word, seen};
+ghost use Rattle.std.specs.{Prelude.{◌≡◌, IfOk, MatchOption, None, false, map, option_map, true}, Char.to_ascii_uppercase, Str.is_utf8};
+ghost use Rattle.redcode_scene.specs.{Nearest.{Suggests, are_apart, are_exchanged, distance, may_tell, near, reserved}, Search.{name_in, nearer, nearest_from, seen}};
 
-use redcode_text::{Word, word_of};
+use redcode_text::{Word, is_word, word_of};
 use std::alloc::{AllocError, Allocator};
 use std::str::from_utf8;
 use strsim::osa_distance;
@@ -11,91 +11,125 @@ use strsim::osa_distance;
 /// Bytes of the longest name that a nearest one is looked for.
 const NAME_LIMIT: usize = 32;
 
-/// The reserved words.
-const WORDS: [&str; 25] = [
-    "DAT", "MOV", "ADD", "SUB", "MUL", "DIV", "MOD", "JMP", "JMZ", "JMN", "DJN", "CMP", "SEQ",
-    "SNE", "SLT", "SPL", "NOP", "LDP", "STP", "EQU", "FOR", "ROF", "ORG", "END", "PIN",
+/// The reserved words but those of P-space, which are refused.
+const WORDS: [&[u8]; 22] = [
+    b"DAT", b"MOV", b"ADD", b"SUB", b"MUL", b"DIV", b"MOD", b"JMP", b"JMZ", b"JMN", b"DJN", b"CMP",
+    b"SEQ", b"SNE", b"SLT", b"SPL", b"NOP", b"EQU", b"FOR", b"ROF", b"ORG", b"END",
 ];
 
-/// The search for the name that is nearest to a misspelt one. Of two that are as near the first counts.
-#[derive(Clone, Copy)]
-pub(crate) struct Nearest<'w, 'n> {
-    word: &'w [u8],
-    found: Option<&'n [u8]>,
-    /// How many edits lead to the name that was found.
-    edits: usize,
+/// The reserved word that is nearest to a text, upper and lower case being one; `None` if none may be told. It fails
+/// when memory runs out.
+pub fn nearest_word<A: Allocator + Copy>(
+    alloc: A,
+    text: &[u8],
+) -> Result<Option<&'static [u8]>, AllocError>
+    ensures { IfOk result (λ found.
+        Suggests (map to_ascii_uppercase text.now) reserved (option_map (λ name. name.now) found)) }
+{
+    let upper = text.to_ascii_uppercase(alloc)?;
+    nearest_among(alloc, upper.as_slice(), &WORDS)
 }
 
-impl<'w, 'n> Nearest<'w, 'n> {
-    pub(crate) fn new(word: &'w [u8]) -> Nearest<'w, 'n> {
-        Nearest {
-            word,
-            found: None,
-            edits: 0,
-        }
-    }
+/// The first of these names to which the fewest edits lead, of those that may be told. It fails when memory runs out.
+pub(crate) fn nearest_among<'n, A: Allocator + Copy>(
+    alloc: A,
+    word: &[u8],
+    names: &[&'n [u8]],
+) -> Result<Option<&'n [u8]>, AllocError>
+    ensures { IfOk result (λ found.
+        Suggests word.now (map (λ name. name.now) names.entry.now) (option_map (λ name. name.now) found)) }
+{
+    let best = nearest_in(alloc, word, names)?;
+    Ok(found_in(best))
+}
 
-    /// The nearest name so far.
-    pub(crate) fn found(&self) -> Option<&'n [u8]> {
-        self.found
+/// The same with how many edits lead to it.
+fn nearest_in<'n, A: Allocator + Copy>(
+    alloc: A,
+    word: &[u8],
+    names: &[&'n [u8]],
+) -> Result<Option<(usize, &'n [u8])>, AllocError>
+    ensures { IfOk result (λ best.
+        option_map seen best ≡ nearest_from word.now None (map (λ name. name.now) names.entry.now)) }
+{
+    let mut best = None;
+    let mut rest = names;
+    while let [name, behind @ ..] = rest {
+        let edits = near(alloc, word, name)?;
+        best = nearer(best, edits, name);
+        rest = behind;
     }
+    Ok(best)
+}
 
-    /// Looks at each of these names.
-    pub(crate) fn offer_each<A: Allocator + Copy>(
-        &mut self,
-        alloc: A,
-        names: &[&'static str],
-    ) -> Result<(), AllocError> {
-        for name in names {
-            self.offer(alloc, name.as_bytes())?;
-        }
-        Ok(())
-    }
-
-    /// Looks at a further name.
-    pub(crate) fn offer<A: Allocator + Copy>(
-        &mut self,
-        alloc: A,
-        name: &'n [u8],
-    ) -> Result<(), AllocError> {
-        let Some(edits) = edits(alloc, self.word, name)? else {
-            return Ok(());
-        };
-        if self.found.is_none() || edits < self.edits {
-            self.found = Some(name);
-            self.edits = edits;
-        }
-        Ok(())
+/// The name of the nearest one and its edits.
+fn found_in<'n>(best: Option<(usize, &'n [u8])>) -> Option<&'n [u8]>
+    ensures { option_map (λ name. name.now) result ≡ name_in (option_map seen best.entry) }
+{
+    match best {
+        Some((_, name)) => Some(name),
+        None => None,
     }
 }
 
-/// How many edits lead from a misspelt name to one that may be told in its place, none if they differ only in letter case.
-fn edits<A: Allocator + Copy>(
+/// The nearer one of the nearest name so far and another one.
+fn nearer<'n>(
+    best: Option<(usize, &'n [u8])>,
+    edits: Option<usize>,
+    name: &'n [u8],
+) -> Option<(usize, &'n [u8])>
+    ensures { option_map seen result ≡ nearer (option_map seen best.entry) edits name.entry.now }
+{
+    match (best, edits) {
+        (_, None) => best,
+        (Some((least, _)), Some(edits)) if least <= edits => best,
+        (_, Some(edits)) => Some((edits, name)),
+    }
+}
+
+/// How many edits lead from a misspelt name to one that may be told in its place, none if they differ only in letter
+/// case; `None` if it may not.
+fn near<A: Allocator + Copy>(
     alloc: A,
     word: &[u8],
     name: &[u8],
-) -> Result<Option<usize>, AllocError> {
-    if word.eq_ignore_ascii_case(name) {
+) -> Result<Option<usize>, AllocError>
+    ensures { IfOk result (λ edits. edits ≡ near word.now name.now) }
+{
+    if is_word(name, word) {
         return Ok(Some(0));
     }
-    match (from_utf8(word), from_utf8(name)) {
-        (Ok(word), Ok(name)) => near(alloc, word, name),
+    if are_apart(word, name) {
+        return Ok(None);
+    }
+    match distance(alloc, word, name)? {
+        Some(edits) if may_tell(word, name, edits) => Ok(Some(edits)),
         _ => Ok(None),
     }
 }
 
-/// How many edits lead from a misspelt name to one that may be told in its place, or `None` if it may not.
-fn near<A: Allocator + Copy>(alloc: A, word: &str, name: &str) -> Result<Option<usize>, AllocError>
-    ensures { IfOk result (λ edits. edits ≡ near word.now name.now) }
+/// How many edits lead from one text of UTF-8 to another; `None` if one is no such text.
+fn distance<A: Allocator + Copy>(
+    alloc: A,
+    word: &[u8],
+    name: &[u8],
+) -> Result<Option<usize>, AllocError>
+    ensures { IfOk result (λ edits. edits ≡ distance word.now name.now) }
 {
-    if are_apart(word.as_bytes(), name.as_bytes()) {
-        return Ok(None);
+    match (text_in(word), text_in(name)) {
+        (Some(word), Some(name)) => Ok(Some(osa_distance(alloc, word, name)?)),
+        _ => Ok(None),
     }
-    let edits = osa_distance(alloc, word, name)?;
-    if may_tell(word.as_bytes(), name.as_bytes(), edits) {
-        Ok(Some(edits))
-    } else {
-        Ok(None)
+}
+
+/// Bytes as a text, if they are UTF-8.
+fn text_in(bytes: &[u8]) -> Option<&str>
+    ensures { MatchOption result (is_utf8 bytes.now ≡ false)
+        (λ text. (text.now ≡ bytes.now) × (is_utf8 bytes.now ≡ true)) }
+{
+    match from_utf8(bytes) {
+        Ok(text) => Some(text),
+        Err(_) => None,
     }
 }
 
@@ -129,73 +163,6 @@ fn are_exchanged(word: &[u8], name: &[u8]) -> bool
             (*a == *e && *b == *d && *c == *f) || (*a == *d && *b == *f && *c == *e)
         }
         _ => false,
-    }
-}
-
-/// The reserved word that is nearest to one that is none.
-pub fn nearest_word<A: Allocator + Copy>(
-    alloc: A,
-    text: &[u8],
-) -> Result<Option<&'static [u8]>, AllocError> {
-    let upper = text.to_ascii_uppercase(alloc)?;
-    nearest_upper(alloc, upper.as_slice())
-}
-
-/// The same of bytes, if they are characters of UTF-8.
-fn nearest_upper<A: Allocator + Copy>(
-    alloc: A,
-    upper: &[u8],
-) -> Result<Option<&'static [u8]>, AllocError> {
-    match from_utf8(upper) {
-        Ok(word) => nearest_text(alloc, word),
-        Err(_) => Ok(None),
-    }
-}
-
-/// The reserved word that is nearest to a text of characters without small letters.
-fn nearest_text<A: Allocator + Copy>(
-    alloc: A,
-    word: &str,
-) -> Result<Option<&'static [u8]>, AllocError>
-    ensures { IfOk result (λ found. IfSome found (λ found. Some found.now ≡ nearest_word word.now)) }
-{
-    match nearest_in(alloc, word, &WORDS)? {
-        Some((_, found)) => Ok(Some(found.as_bytes())),
-        None => Ok(None),
-    }
-}
-
-/// The first of these names to which the fewest edits lead, of those that may be told, and how many these are.
-fn nearest_in<A: Allocator + Copy>(
-    alloc: A,
-    word: &str,
-    names: &[&'static str],
-) -> Result<Option<(usize, &'static str)>, AllocError>
-    ensures { IfOk result (λ best.
-        option_map seen best ≡ nearest_from word.now None (map (λ name. name.now) names.now)) }
-{
-    let mut best = None;
-    let mut rest = names;
-    while let [name, behind @ ..] = rest {
-        let edits = near(alloc, word, name)?;
-        best = nearer(best, edits, name);
-        rest = behind;
-    }
-    Ok(best)
-}
-
-/// The nearer one of the nearest name so far and another one.
-fn nearer(
-    best: Option<(usize, &'static str)>,
-    edits: Option<usize>,
-    name: &'static str,
-) -> Option<(usize, &'static str)>
-    ensures { option_map seen result ≡ nearer (option_map seen best.entry) edits name.now }
-{
-    match (best, edits) {
-        (_, None) => best,
-        (Some((least, _)), Some(edits)) if least <= edits => best,
-        (_, Some(edits)) => Some((edits, name)),
     }
 }
 

@@ -1,4 +1,7 @@
-//! What the source would be refused for if one of its lines were another.
+//! What the source would be if one of its lines were another.
+
+ghost use Rattle.std.specs.Prelude.{◌≡◌, ◌≤◌, IfOk, IfSome, length};
+ghost use Rattle.redcode_scene.specs.Definer.{HasLabel, bytes_through, with_line};
 
 use crate::copies::blocks_around;
 use crate::scene::{Row, Scene};
@@ -9,8 +12,8 @@ use redcode_text::Token;
 use std::alloc::{AllocError, Allocator};
 use war_types::{AsmFault, AsmKind};
 
-/// Steps that may be spent on what is told of one refusal: as many as a service allows an assembly by default.
-const STEPS: u64 = 25_000;
+/// Steps that may be spent on what is told of one refusal: twice as many as a service allows an assembly by default.
+const STEPS: u64 = 50_000;
 
 /// A budget of steps for what is told of one refusal.
 pub fn probe_steps() -> Steps {
@@ -19,8 +22,8 @@ pub fn probe_steps() -> Steps {
 
 /// Whether a line is walked over before the line `limit` is refused; `None` if that takes too long to find out.
 ///
-/// A line outside of all blocks is, if it stands before. Any other one is replaced by an `EQU` without a name: the source is then refused
-/// for that, unless it doesn't come so far.
+/// A line outside of all blocks is, if it comes before. Any other one is replaced by an `EQU` without a name: the source
+/// is then refused for that, unless it doesn't come so far.
 pub fn is_walked<A: Allocator + Copy>(
     scene: &Scene<'_, A>,
     number: u32,
@@ -30,7 +33,7 @@ pub fn is_walked<A: Allocator + Copy>(
     if blocks_around(scene.lines.as_slice(), number).count == 0 {
         return Ok(Some(number < limit));
     }
-    let Some(fault) = refusal_with(scene, number, b"EQU", b"", steps)? else {
+    let Some(fault) = refusal_with(scene, number, b"EQU", steps)? else {
         return Ok(Some(false));
     };
     match fault.kind {
@@ -40,7 +43,7 @@ pub fn is_walked<A: Allocator + Copy>(
     }
 }
 
-/// Whether a line is refused for the names of `EQU` lines if it has these of its tokens in place of its operands.
+/// Whether a line is refused for the names of `EQU` lines if it has one of its tokens in place of all of these.
 pub fn is_limited<A: Allocator + Copy>(
     scene: &Scene<'_, A>,
     row: &Row<'_, '_>,
@@ -54,7 +57,9 @@ pub fn is_limited<A: Allocator + Copy>(
         width: row.spans(operands).from,
     };
     let front = part_of(line_text(scene.source, number), front);
-    match refusal_with(scene, number, front, name, steps)? {
+    let mut text = Vec::from_slice(scene.alloc, front)?;
+    text.extend_from_slice(name)?;
+    match refusal_with(scene, number, text.as_slice(), steps)? {
         None => Ok(false),
         Some(fault) => Ok(fault.line == number && matches!(fault.kind, AsmKind::EquLimit)),
     }
@@ -64,29 +69,15 @@ pub fn is_limited<A: Allocator + Copy>(
 fn refusal_with<A: Allocator + Copy>(
     scene: &Scene<'_, A>,
     number: u32,
-    front: &[u8],
-    end: &[u8],
-    steps: &mut Steps,
-) -> Result<Option<AsmFault>, AllocError> {
-    let (before, behind) = around_line(scene.source, number);
-    let mut text = Vec::from_slice(scene.alloc, before)?;
-    text.extend_from_slice(front)?;
-    text.extend_from_slice(end)?;
-    text.extend_from_slice(behind)?;
-    Ok(refusal_of(scene, text.as_slice(), steps))
-}
-
-/// Why a text can't be written out.
-fn refusal_of<A: Allocator + Copy>(
-    scene: &Scene<'_, A>,
     text: &[u8],
     steps: &mut Steps,
-) -> Option<AsmFault> {
+) -> Result<Option<AsmFault>, AllocError> {
+    let made = with_line(scene.alloc, scene.source, number, text)?;
     let region = Bump::new(scene.alloc);
-    refusal_in(scene, &region, text, steps)
+    Ok(refusal_in(scene, &region, made.as_slice(), steps))
 }
 
-/// The same, with this region for what is written out.
+/// Why a text can't be written out, with this region for what is.
 fn refusal_in<'t, A: Allocator + Copy>(
     scene: &Scene<'_, A>,
     region: &'t Bump<A>,
@@ -99,18 +90,74 @@ fn refusal_in<'t, A: Allocator + Copy>(
     }
 }
 
-/// What stands before the line of this number, and what stands after its text.
-fn around_line(source: &[u8], number: u32) -> (&[u8], &[u8]) {
-    let mut from = 0;
-    let mut count: u32 = 1;
-    for (i, byte) in source.iter().enumerate() {
-        if *byte == b'\n' {
-            if count == number {
-                return (&source[..i.min(from)], &source[i..]);
-            }
-            count = count.saturating_add(1);
-            from = i + 1;
-        }
+/// Whether the source has a label of this name with this text in place of a line; `None` if it can't be written out
+/// within the steps.
+pub(crate) fn has_label_with<A: Allocator + Copy>(
+    scene: &Scene<'_, A>,
+    number: u32,
+    text: &[u8],
+    name: &[u8],
+    steps: &mut Steps,
+) -> Result<Option<bool>, AllocError>
+    ensures { IfOk result (λ found. IfSome found
+        (HasLabel scene.now.settings.now (with_line scene.now.source.now number text.now) name.now)) }
+{
+    let made = with_line(scene.alloc, scene.source, number, text)?;
+    let region = Bump::new(scene.alloc);
+    Ok(has_label(scene, &region, made.as_slice(), name, steps))
+}
+
+/// Whether a text has a label of this name, with this region for what is written out; `None` if that can't be.
+fn has_label<'t, A: Allocator + Copy>(
+    scene: &Scene<'_, A>,
+    region: &'t Bump<A>,
+    text: &'t [u8],
+    name: &[u8],
+    steps: &mut Steps,
+) -> Option<bool>
+    ensures { IfSome result (HasLabel scene.now.settings.now text.entry.now name.now) }
+{
+    match expand_within(scene.alloc, region, text, scene.settings, steps) {
+        Ok(expanded) => Some(expanded.label(name).is_some()),
+        Err(_) => None,
     }
-    (&source[..source.len().min(from)], &[])
+}
+
+/// The source with this text in place of the line of this number.
+fn with_line<A: Allocator>(
+    alloc: A,
+    source: &[u8],
+    number: u32,
+    text: &[u8],
+) -> Result<Vec<u8, A>, AllocError>
+    ensures { IfOk result (λ made. made.items ≡ with_line source.now number text.now) }
+{
+    let from = bytes_through(number.saturating_sub(1), source);
+    let (before, rest) = source.split_at(from);
+    let (_, behind) = rest.split_at(bytes_through(1, rest));
+    let mut made = Vec::from_slice(alloc, before)?;
+    made.extend_from_slice(text)?;
+    made.push(b'\n')?;
+    made.extend_from_slice(behind)?;
+    Ok(made)
+}
+
+/// How many bytes of a text there are up to its line feed of this number, counted from 1, and with it; all of them if
+/// it has fewer.
+fn bytes_through(feeds: u32, text: &[u8]) -> usize
+    ensures value { result ≡ bytes_through feeds text.now }
+    ensures within { result ≤ length text.now }
+{
+    let mut left = feeds;
+    let mut rest = text;
+    while let [byte, behind @ ..] = rest {
+        if left == 0 {
+            return text.len() - rest.len();
+        }
+        if *byte == b'\n' {
+            left -= 1;
+        }
+        rest = behind;
+    }
+    text.len()
 }

@@ -4,7 +4,8 @@ use crate::expecting::expect_same;
 use crate::making::{hill_of_two, settings_of};
 use crate::replays::replayed;
 use koth_hill::Hill;
-use koth_page::{Address, Links, Sign, TITLE, hill_page};
+use koth_page::{Address, Links, Origin, RANKING, Ranked, Sign, TITLE, hill_page, ranking_page};
+use koth_text::Tally;
 use koth_views::hill_view;
 use mars_core::{Arena, Outcome};
 use std::alloc::{AllocError, Global};
@@ -21,6 +22,20 @@ const SIGN: Sign<'static> = Sign {
     }),
 };
 
+/// A row of a ranking.
+const ROW: Ranked<'static> = Ranked {
+    number: 1,
+    name: b"One",
+    author: b"A.",
+    points: 3,
+    rounds: Tally {
+        won: 1,
+        lost: 0,
+        tied: 0,
+    },
+    origin: Origin::File(b"one.red"),
+};
+
 /// Calls that take memory.
 #[derive(Clone, Copy)]
 enum Call {
@@ -29,6 +44,7 @@ enum Call {
     Rows,
     Table,
     Page(Links),
+    Ranking,
     Replay,
 }
 
@@ -80,6 +96,15 @@ fn has_text(text: Result<Vec<u8, &Refusing<Global>>, AllocError>) -> Option<bool
     }
 }
 
+/// The page of a ranking of two, by the results of a hill.
+fn ranked_page<'m>(
+    memory: &'m Refusing<Global>,
+    hill: &Hill<&Refusing<Global>>,
+) -> Result<Vec<u8, &'m Refusing<Global>>, AllocError> {
+    let two = [ROW, Ranked { number: 2, ..ROW }];
+    ranking_page(memory, RANKING, hill.settings(), false, &two, hill)
+}
+
 /// Whether a replay has the one turn of its round, if there is memory for it.
 fn turns_in(rt: &impl Abort, calm: &Refusing<Global>, memory: &Refusing<Global>) -> Option<bool> {
     match replayed(rt, calm, memory, 0, 9) {
@@ -102,6 +127,7 @@ fn is_given(
         Call::Rows => rows_in(memory, hill),
         Call::Table => has_text(hill_view(memory, hill)),
         Call::Page(links) => has_text(hill_page(memory, hill, &SIGN, links)),
+        Call::Ranking => has_text(ranked_page(memory, hill)),
         Call::Replay => turns_in(rt, calm, memory),
     }
 }
@@ -129,7 +155,7 @@ fn growths_of(
 }
 
 /// A call, its least number of growths, and its greatest.
-static CALLS: [(&str, Call, u64, u64); 7] = [
+static CALLS: [(&str, Call, u64, u64); 8] = [
     // its cells, the list of those that were written, and two queues
     ("an arena", Call::Arena, 4, 4),
     ("a hill", Call::Hill, 1, 1),
@@ -137,6 +163,7 @@ static CALLS: [(&str, Call, u64, u64); 7] = [
     ("a table", Call::Table, 1, MOST_RUNS),
     ("a page", Call::Page(Links::None), 1, MOST_RUNS),
     ("a page with links", Call::Page(Links::Rounds), 1, MOST_RUNS),
+    ("a page of a ranking", Call::Ranking, 1, MOST_RUNS),
     // what is loaded, the turn's events, and the list of turns
     ("a replay", Call::Replay, 3, 3),
 ];

@@ -2,8 +2,10 @@
 
 use crate::callers::{Cue, Deed};
 use crate::hosts::Shut;
-use crate::serving::{ALL, Due, act_on_a_fault, within};
+use crate::serving::{ALL, Due, Trouble, act_on_a_fault, within};
 use koth_service::ServiceFault;
+use std::process::Abort;
+use tests_stores::{TestMemory, Trial, run};
 
 /// The device fails in the first submission, which isn't answered. The other peer is served on the hill as it was
 /// before, opened again; or on none, if it can't be.
@@ -73,15 +75,35 @@ static WITHOUT_A_SYNC_DUE: [Due; 5] = [
     Due::Heard(4, "PLACED 102 2 2\n"),
 ];
 
+/// The device fails after these calls, the hill may be opened again that often, and so the service ends.
+fn after(calls: u64, openings: u32, fault: Option<ServiceFault<Shut>>) -> Trouble {
+    Trouble {
+        calls,
+        openings,
+        fault,
+    }
+}
+
+struct FailureTrial;
+
+impl<R: Abort + AllocGlobal> Trial<R> for FailureTrial {
+    fn run<M: TestMemory>(rt: &R, memory: M, _: M) {
+        let dues = &A_DEVICE_THAT_FAILS_DUE;
+        let first = after(8, 1, None);
+        act_on_a_fault(rt, memory, &A_DEVICE_THAT_FAILS, within(2, 2), first, dues);
+        let dues = &A_HILL_THAT_IS_GONE_DUE;
+        let gone = after(8, 0, Some(ServiceFault::Reopening(Shut)));
+        act_on_a_fault(rt, memory, &A_DEVICE_THAT_FAILS, within(2, 2), gone, dues);
+        let dues = &WITHOUT_A_HEADER_DUE;
+        let header = after(220, 1, None);
+        act_on_a_fault(rt, memory, &A_HUNDRED_BEFORE, within(2, 4), header, dues);
+        let dues = &WITHOUT_A_SYNC_DUE;
+        let sync = after(221, 1, None);
+        act_on_a_fault(rt, memory, &A_HUNDRED_BEFORE, within(2, 4), sync, dues);
+    }
+}
+
 #[test]
 fn failures(rt: HostRuntime) {
-    let dues = &A_DEVICE_THAT_FAILS_DUE;
-    act_on_a_fault(&rt, &A_DEVICE_THAT_FAILS, within(2, 2), 8, 1, None, dues);
-    let fault = Some(ServiceFault::Reopening(Shut));
-    let dues = &A_HILL_THAT_IS_GONE_DUE;
-    act_on_a_fault(&rt, &A_DEVICE_THAT_FAILS, within(2, 2), 8, 0, fault, dues);
-    let dues = &WITHOUT_A_HEADER_DUE;
-    act_on_a_fault(&rt, &A_HUNDRED_BEFORE, within(2, 4), 220, 1, None, dues);
-    let dues = &WITHOUT_A_SYNC_DUE;
-    act_on_a_fault(&rt, &A_HUNDRED_BEFORE, within(2, 4), 221, 1, None, dues);
+    run::<HostRuntime, FailureTrial>(&rt, rt.alloc());
 }

@@ -35,11 +35,6 @@ impl<'c> Fakes<'c> {
         }
     }
 
-    /// The peer that called from this port.
-    pub(crate) fn caller(&self, port: u16) -> Option<&Caller> {
-        self.callers.iter().find(|caller| caller.port == port)
-    }
-
     /// The peer or the browser that is there under this number.
     fn seated(&mut self, is_browser: bool, number: usize) -> Option<&mut Caller> {
         let place = self.callers.iter().position(|caller| {
@@ -109,6 +104,27 @@ impl<'c> Fakes<'c> {
         self.callers
             .iter()
             .position(|caller| caller.waits && caller.is_browser == is_browser)
+    }
+}
+
+/// Sockets that keep what became of those that called.
+pub(crate) trait Called: Sockets + Drop {
+    /// What the one heard that called from this port, if one did.
+    fn heard(&self, port: u16) -> Option<&[u8]>;
+
+    /// When its connection was closed, if it was.
+    fn closed(&self, port: u16) -> Option<u64>;
+}
+
+impl Called for Fakes<'_> {
+    fn heard(&self, port: u16) -> Option<&[u8]> {
+        let caller = self.callers.iter().find(|caller| caller.port == port)?;
+        Some(caller.heard.as_slice())
+    }
+
+    fn closed(&self, port: u16) -> Option<u64> {
+        let caller = self.callers.iter().find(|caller| caller.port == port)?;
+        caller.closed
     }
 }
 

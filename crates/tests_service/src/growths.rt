@@ -2,13 +2,15 @@
 //! is answered once there is memory.
 
 use crate::compare::expect_same;
-use crate::hills::{Ground, Hill, Memory, NEVER, empty_hill, reopened};
+use crate::hills::{Ground, NEVER, empty_hill, reopened};
 use crate::sessions::{LINES, expect_session};
 use crate::streams::plain;
+use hill_store::Store;
 use koth_session::SessionEnd;
 use sector_disk::FuseKind;
 use std::process::Abort;
-use tests_fixtures::{Refusing, rows};
+use tests_fixtures::rows;
+use tests_stores::{TestMemory, Trial, run};
 
 const NONE: &str = ".\n";
 
@@ -66,10 +68,10 @@ static OF_THREE_AND_DEVICE: [Refused; 8] = rows! {
 };
 
 /// A session on a store answers so, and ends so.
-fn answer<'m>(
+fn answer<M: TestMemory>(
     rt: &(impl Abort + AllocGlobal),
-    memory: Memory<'m>,
-    store: &mut Hill<'m>,
+    memory: M,
+    store: &mut Store<M::Device, M>,
     lines: &[u8],
     end: SessionEnd,
     answers: &str,
@@ -87,10 +89,10 @@ fn answer<'m>(
 }
 
 /// The table of a store is this, and so is that of the hill that is opened on its device.
-fn expect_table<'m>(
+fn expect_table<M: TestMemory>(
     rt: &(impl Abort + AllocGlobal),
-    memory: Memory<'m>,
-    mut store: Hill<'m>,
+    memory: M,
+    mut store: Store<M::Device, M>,
     table: &str,
 ) {
     answer(
@@ -114,9 +116,9 @@ fn expect_table<'m>(
 }
 
 /// A session on an empty hill without growth `k` ends so, and `refused` were refused.
-fn expect_ending(
+fn expect_ending<M: TestMemory>(
     rt: &(impl Abort + AllocGlobal),
-    ground: Ground<'_>,
+    ground: Ground<M>,
     k: u64,
     lines: &[u8],
     ending: Refused,
@@ -133,9 +135,9 @@ fn expect_ending(
 
 /// Each growth of a session on these lines is refused in turn, and each time they are given to a session with memory
 /// then.
-fn expect_growths(
+fn expect_growths<M: TestMemory>(
     rt: &(impl Abort + AllocGlobal),
-    ground: Ground<'_>,
+    ground: Ground<M>,
     lines: &[u8],
     refusals: &[Refused],
 ) {
@@ -154,29 +156,35 @@ fn expect_growths(
     expect_ending(rt, ground, k, lines, *done, 0);
 }
 
-/// The same where the device has memory of its own, or its memory where the session has it.
-fn expect_where(
+/// The same where the device has its memory from there.
+fn expect_where<M: TestMemory>(
     rt: &(impl Abort + AllocGlobal),
-    is_shared: bool,
+    memory: M,
+    of_device: M,
     lines: &[u8],
     refusals: &[Refused],
 ) {
-    let memory = Refusing::new(rt.alloc());
-    let ample = Refusing::new(rt.alloc());
     let ground = Ground {
-        memory: &memory,
-        of_device: if is_shared { &memory } else { &ample },
+        memory,
+        of_device,
         calls: NEVER,
         kind: FuseKind::FailLost,
     };
     expect_growths(rt, ground, lines, refusals);
-    drop(ample);
-    drop(memory);
+}
+
+/// Growths where the device has memory of its own, and where it has its memory from where the session has it.
+struct Growths;
+
+impl<R: Abort + AllocGlobal> Trial<R> for Growths {
+    fn run<M: TestMemory>(rt: &R, memory: M, disks: M) {
+        expect_where(rt, memory, disks, LINES, &OF_ONE);
+        expect_where(rt, memory, memory, LINES, &OF_ONE_AND_DEVICE);
+        expect_where(rt, memory, memory, THREE, &OF_THREE_AND_DEVICE);
+    }
 }
 
 #[test]
 fn of_sessions(rt: HostRuntime) {
-    expect_where(&rt, false, LINES, &OF_ONE);
-    expect_where(&rt, true, LINES, &OF_ONE_AND_DEVICE);
-    expect_where(&rt, true, THREE, &OF_THREE_AND_DEVICE);
+    run::<HostRuntime, Growths>(&rt, rt.alloc());
 }

@@ -1,39 +1,28 @@
-//! Hills of two, each over a device in memory that may fail. Memory, device and hill are of one type each in all tests.
+//! Hills of two, each over a device in memory that may fail. Tests know memory and devices by `TestMemory`.
 
 ghost use Rattle.std.specs.Prelude.{◌≡◌, false, IfSome};
 
 use crate::compare::expect_same;
 use hill_store::Store;
-use sector_disk::{FuseDevice, FuseKind, MemoryDevice};
-use std::alloc::Global;
+use sector_disk::FuseKind;
 use std::process::Abort;
-use tests_fixtures::Refusing;
-use tests_stores::{SECTORS, SMALL, close, count_rows, opened};
+use tests_stores::{SECTORS, SMALL, TestMemory, close, count_rows, opened};
 use war_types::Settings;
-
-/// Memory whose growths may be refused.
-pub(crate) type Memory<'m> = &'m Refusing<Global>;
-
-/// A device in memory that may fail.
-pub(crate) type Fuse<'m> = FuseDevice<MemoryDevice<Memory<'m>>>;
-
-/// A hill over such a device.
-pub(crate) type Hill<'m> = Store<Fuse<'m>, Memory<'m>>;
 
 /// A device that passes this number of calls never fails in a test.
 pub(crate) const NEVER: u64 = u64::MAX;
 
 /// Where a hill takes its memory from, where its device does, after how many calls that fails once, and how.
 #[derive(Clone, Copy)]
-pub(crate) struct Ground<'m> {
-    pub(crate) memory: Memory<'m>,
-    pub(crate) of_device: Memory<'m>,
+pub(crate) struct Ground<M> {
+    pub(crate) memory: M,
+    pub(crate) of_device: M,
     pub(crate) calls: u64,
     pub(crate) kind: FuseKind,
 }
 
 /// Of one memory for both, and of a device that fails once, after `calls` calls.
-pub(crate) fn failing(memory: Memory<'_>, calls: u64, kind: FuseKind) -> Ground<'_> {
+pub(crate) fn failing<M: TestMemory>(memory: M, calls: u64, kind: FuseKind) -> Ground<M> {
     Ground {
         memory,
         of_device: memory,
@@ -43,26 +32,37 @@ pub(crate) fn failing(memory: Memory<'_>, calls: u64, kind: FuseKind) -> Ground<
 }
 
 /// A hill without warriors, if there is memory. Creating it makes five calls of the device.
-pub(crate) fn hill_on(ground: Ground<'_>) -> Option<Hill<'_>>
+pub(crate) fn hill_on<M: TestMemory>(ground: Ground<M>) -> Option<Store<M::Device, M>>
     ensures { IfSome result (λ store. store.reopen ≡ false) }
 {
     let settings = Settings::new(SMALL).ok()?;
-    let inner = MemoryDevice::new(ground.of_device, SECTORS).ok()?;
-    let device = FuseDevice::new(inner, ground.calls, ground.kind);
-    Store::create(ground.memory, device, settings).ok()
+    let disk = ground.of_device.blank(SECTORS)?;
+    let device = ground.of_device.failing(disk, ground.calls, ground.kind);
+    match Store::create(ground.memory, device, settings) {
+        Ok(store) => Some(store),
+        Err(_) => None,
+    }
 }
 
 /// A hill without warriors.
-pub(crate) fn empty_hill<'m>(rt: &impl Abort, ground: Ground<'m>) -> Hill<'m> {
+pub(crate) fn empty_hill<M: TestMemory>(rt: &impl Abort, ground: Ground<M>) -> Store<M::Device, M> {
     hill_on(ground).expect(rt, "a hill is created")
 }
 
 /// The hill that is opened on a hill's device.
-pub(crate) fn reopened<'m>(rt: &impl Abort, memory: Memory<'m>, store: Hill<'m>) -> Hill<'m> {
+pub(crate) fn reopened<M: TestMemory>(
+    rt: &impl Abort,
+    memory: M,
+    store: Store<M::Device, M>,
+) -> Store<M::Device, M> {
     opened(memory, close(store)).expect(rt, "it opens")
 }
 
 /// `count` warriors are on a hill.
-pub(crate) fn expect_count(rt: &impl Abort, store: &Hill<'_>, count: usize) {
+pub(crate) fn expect_count<M: TestMemory>(
+    rt: &impl Abort,
+    store: &Store<M::Device, M>,
+    count: usize,
+) {
     expect_same(rt, &count_rows(store).ok(), &Some(count), "warriors");
 }

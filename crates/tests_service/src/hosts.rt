@@ -3,20 +3,20 @@
 ghost use Rattle.std.specs.Prelude.{◌≡◌, [], ◌∷◌, codes};
 ghost use Rattle.koth_http.specs.declared.target.Page.TheVariants as pages;
 
-use crate::hills::{Fuse, Hill, Memory};
 use hill_store::{Reply, Store};
-use koth_hill::Hill as KothHill;
+use koth_hill::Hill;
 use koth_http::Page;
 use koth_service::{Event, Host, LogWrite};
 use std::alloc::AllocError;
 use std::cell::Cell;
 use std::io::Write;
 use std::net::SocketAddr;
+use tests_stores::TestMemory;
 
 /// It writes a line for each event, with the peer's port before it, and opens the hill again as often as it may.
 #[derive(Drop)]
-pub(crate) struct Clerk<'m> {
-    pub(crate) memory: Memory<'m>,
+pub(crate) struct Clerk<M: TestMemory> {
+    pub(crate) memory: M,
     pub(crate) openings: Cell<u32>,
 }
 
@@ -24,7 +24,7 @@ pub(crate) struct Clerk<'m> {
 #[derive(Clone, Copy, Debug, PartialEq)]
 pub(crate) struct Shut;
 
-impl<'m> Host<Fuse<'m>, Memory<'m>> for Clerk<'m> {
+impl<M: TestMemory> Host<M::Device, M> for Clerk<M> {
     type Fault = Shut;
 
     ghost shows = { λ _ _. record {
@@ -34,7 +34,7 @@ impl<'m> Host<Fuse<'m>, Memory<'m>> for Clerk<'m> {
       steps = 1000000;
     } };
 
-    fn reopen(&self, device: Fuse<'m>) -> Result<Hill<'m>, Shut> {
+    fn reopen(&self, device: M::Device) -> Result<Store<M::Device, M>, Shut> {
         let openings = self.openings.get();
         if openings == 0 {
             return Err(Shut);
@@ -57,9 +57,9 @@ impl<'m> Host<Fuse<'m>, Memory<'m>> for Clerk<'m> {
     /// The page of the hill says how many are on it. There is no other.
     fn page(
         &self,
-        store: &Hill<'m>,
+        store: &Store<M::Device, M>,
         page: Page,
-    ) -> Result<Option<Vec<u8, Memory<'m>>>, AllocError> {
+    ) -> Result<Option<Vec<u8, M>>, AllocError> {
         match page {
             Page::Hill => {
                 let text = format!(in self.memory; "{} here\n", store.hill().len())?;
@@ -73,7 +73,7 @@ impl<'m> Host<Fuse<'m>, Memory<'m>> for Clerk<'m> {
         &self,
         peer: SocketAddr,
         reply: Reply,
-        _hill: &KothHill<Memory<'m>>,
+        _hill: &Hill<M>,
         errors: &mut E,
     ) {
         if let Ok(line) = answered(self.memory, peer.port(), reply) {
@@ -88,11 +88,7 @@ impl<'m> Host<Fuse<'m>, Memory<'m>> for Clerk<'m> {
     }
 }
 
-fn line_of<'m>(
-    memory: Memory<'m>,
-    port: u16,
-    event: Event<'_>,
-) -> Result<String<Memory<'m>>, AllocError> {
+fn line_of<M: TestMemory>(memory: M, port: u16, event: Event<'_>) -> Result<String<M>, AllocError> {
     match event {
         Event::Connected => told(memory, port, "connected\n"),
         Event::Refused => told(memory, port, "refused\n"),
@@ -107,11 +103,11 @@ fn line_of<'m>(
 }
 
 /// A line of this text about the peer at a port.
-fn told<'m>(memory: Memory<'m>, port: u16, text: &str) -> Result<String<Memory<'m>>, AllocError> {
+fn told<M: TestMemory>(memory: M, port: u16, text: &str) -> Result<String<M>, AllocError> {
     format!(in memory; "{} {}", port, text)
 }
 
-fn answered(memory: Memory<'_>, port: u16, reply: Reply) -> Result<String<Memory<'_>>, AllocError> {
+fn answered<M: TestMemory>(memory: M, port: u16, reply: Reply) -> Result<String<M>, AllocError> {
     let line = koth_session::line_of(&reply);
     told(
         memory,
@@ -120,13 +116,13 @@ fn answered(memory: Memory<'_>, port: u16, reply: Reply) -> Result<String<Memory
     )
 }
 
-fn asked<'m>(
-    memory: Memory<'m>,
+fn asked<M: TestMemory>(
+    memory: M,
     port: u16,
     line: &[u8],
     status: &[u8],
     bytes: usize,
-) -> Result<String<Memory<'m>>, AllocError> {
+) -> Result<String<M>, AllocError> {
     let line = str::from_utf8(line).unwrap_or("");
     let status = str::from_utf8(status).unwrap_or("");
     format!(in memory; "{} {}: {} {}\n", port, line, status, bytes)

@@ -2,6 +2,8 @@
 
 use crate::callers::{Cue, Deed};
 use crate::serving::{ALL, Due, act_within, within};
+use std::process::Abort;
+use tests_stores::{TestMemory, Trial, run};
 
 /// A peer whose bytes make no whole line keeps its place while no one waits. If another peer waits, it keeps the place
 /// for 60 seconds after its last line, be it one of a source, and no longer.
@@ -149,37 +151,50 @@ static BYTES_DURING_A_SUBMISSION_DUE: [Due; 3] = [
     Due::Told("2 ", &["connected", "By(EndOfInput)"]),
 ];
 
+struct PlaceTrial;
+
+impl<R: Abort + AllocGlobal> Trial<R> for PlaceTrial {
+    fn run<M: TestMemory>(rt: &R, memory: M, _: M) {
+        act_within(
+            rt,
+            memory,
+            &BYTES_WITHOUT_A_LINE,
+            within(1, 2),
+            &BYTES_WITHOUT_A_LINE_DUE,
+        );
+        act_within(rt, memory, &A_FIRST_BYTE, within(1, 4), &A_FIRST_BYTE_DUE);
+        act_within(
+            rt,
+            memory,
+            &THE_LONGEST_UNUSED,
+            within(2, 4),
+            &THE_LONGEST_UNUSED_DUE,
+        );
+        act_within(
+            rt,
+            memory,
+            &A_TURN_THAT_IS_AWAITED,
+            within(2, 3),
+            &A_TURN_THAT_IS_AWAITED_DUE,
+        );
+        act_within(
+            rt,
+            memory,
+            &ANSWERS_THAT_ARE_OWED,
+            within(2, 2),
+            &ANSWERS_THAT_ARE_OWED_DUE,
+        );
+        act_within(
+            rt,
+            memory,
+            &BYTES_DURING_A_SUBMISSION,
+            within(2, 3),
+            &BYTES_DURING_A_SUBMISSION_DUE,
+        );
+    }
+}
+
 #[test]
 fn places(rt: HostRuntime) {
-    act_within(
-        &rt,
-        &BYTES_WITHOUT_A_LINE,
-        within(1, 2),
-        &BYTES_WITHOUT_A_LINE_DUE,
-    );
-    act_within(&rt, &A_FIRST_BYTE, within(1, 4), &A_FIRST_BYTE_DUE);
-    act_within(
-        &rt,
-        &THE_LONGEST_UNUSED,
-        within(2, 4),
-        &THE_LONGEST_UNUSED_DUE,
-    );
-    act_within(
-        &rt,
-        &A_TURN_THAT_IS_AWAITED,
-        within(2, 3),
-        &A_TURN_THAT_IS_AWAITED_DUE,
-    );
-    act_within(
-        &rt,
-        &ANSWERS_THAT_ARE_OWED,
-        within(2, 2),
-        &ANSWERS_THAT_ARE_OWED_DUE,
-    );
-    act_within(
-        &rt,
-        &BYTES_DURING_A_SUBMISSION,
-        within(2, 3),
-        &BYTES_DURING_A_SUBMISSION_DUE,
-    );
+    run::<HostRuntime, PlaceTrial>(&rt, rt.alloc());
 }

@@ -1,18 +1,14 @@
 //! Peers on a hill of two, by scripts.
 
 use crate::compare::expect_same;
-use crate::hills::{Fuse, Ground, Memory, NEVER, empty_hill, failing};
+use crate::hills::{Ground, NEVER, empty_hill, failing};
 use koth_session::{Judge, NotConnected, PeerEnd, Peers, Step};
 use sector_disk::FuseKind;
 use std::process::Abort;
-use tests_fixtures::Refusing;
-use tests_stores::opened;
+use tests_stores::{TestMemory, opened};
 
 /// The most turns of a step in these tests.
 const TURNS: u32 = 2_000_000;
-
-/// Who judges on a hill of these tests.
-pub(crate) type HillJudge<'m> = Judge<Fuse<'m>, Memory<'m>>;
 
 /// What is done in a script, or has to have come of it.
 #[derive(Clone, Copy)]
@@ -50,56 +46,78 @@ pub(crate) enum Act {
     Refused(u64),
 }
 
-/// Peers, for `most` of whom there is room, act so on an empty hill: first `begin`, then `repeated` for `runs` times,
-/// and then `end`. Where growths are refused, those of the device aren't.
-pub(crate) fn follow(
-    rt: &(impl Abort + AllocGlobal),
-    most: usize,
-    begin: &[Act],
-    runs: u64,
-    repeated: &[Act],
-    end: &[Act],
-) {
-    let memory = Refusing::new(rt.alloc());
-    let ample = Refusing::new(rt.alloc());
-    let ground = Ground {
-        of_device: &ample,
-        ..failing(&memory, NEVER, FuseKind::FailLost)
-    };
-    let mut judge = Judge::new(empty_hill(rt, ground));
-    let mut peers = Peers::new(&memory, most).expect(rt, "there is memory");
-    act_out(rt, &memory, 0, &mut peers, &mut judge, begin);
-    for run in 0..runs {
-        act_out(rt, &memory, run, &mut peers, &mut judge, repeated);
+/// Acts of peers, for `most` of whom there is room: first `begin`, then `repeated` for `runs` times, and then `end`.
+#[derive(Clone, Copy)]
+pub(crate) struct Script {
+    pub(crate) most: usize,
+    pub(crate) begin: &'static [Act],
+    pub(crate) runs: u64,
+    pub(crate) repeated: &'static [Act],
+    pub(crate) end: &'static [Act],
+}
+
+/// Peers that begin and end so, and repeat nothing.
+pub(crate) fn acting(most: usize, begin: &'static [Act], end: &'static [Act]) -> Script {
+    Script {
+        most,
+        begin,
+        runs: 0,
+        repeated: &[],
+        end,
     }
-    act_out(rt, &memory, 0, &mut peers, &mut judge, end);
+}
+
+/// The same for one that repeats this for `runs` times in between.
+pub(crate) fn repeating(script: Script, runs: u64, repeated: &'static [Act]) -> Script {
+    Script {
+        runs,
+        repeated,
+        ..script
+    }
+}
+
+/// Peers act by a script on an empty hill. Where growths are refused, those of the device aren't.
+pub(crate) fn follow<M: TestMemory>(rt: &impl Abort, memory: M, disks: M, script: Script) {
+    let ground = Ground {
+        of_device: disks,
+        ..failing(memory, NEVER, FuseKind::FailLost)
+    };
+    memory.refuse(0, 0);
+    let mut judge = Judge::new(empty_hill(rt, ground));
+    let mut peers = Peers::new(memory, script.most).expect(rt, "there is memory");
+    act_out(rt, memory, 0, &mut peers, &mut judge, script.begin);
+    for run in 0..script.runs {
+        act_out(rt, memory, run, &mut peers, &mut judge, script.repeated);
+    }
+    act_out(rt, memory, 0, &mut peers, &mut judge, script.end);
     drop(peers);
     drop(judge);
-    drop(ample);
-    drop(memory);
 }
 
 /// Two peers act so on an empty hill whose device fails once, after ten calls, and then on the one that is opened
 /// again.
-pub(crate) fn follow_over_a_fault(rt: &(impl Abort + AllocGlobal), before: &[Act], after: &[Act]) {
-    let memory = Refusing::new(rt.alloc());
-    let mut judge = Judge::new(empty_hill(rt, failing(&memory, 10, FuseKind::FailKept)));
-    let mut peers = Peers::new(&memory, 2).expect(rt, "there is memory");
-    act_out(rt, &memory, 0, &mut peers, &mut judge, before);
-    let mut judge = Judge::new(opened(&memory, judge.close()).expect(rt, "it opens"));
-    act_out(rt, &memory, 0, &mut peers, &mut judge, after);
+pub(crate) fn follow_over_a_fault<M: TestMemory>(
+    rt: &impl Abort,
+    memory: M,
+    before: &[Act],
+    after: &[Act],
+) {
+    let mut judge = Judge::new(empty_hill(rt, failing(memory, 10, FuseKind::FailKept)));
+    let mut peers = Peers::new(memory, 2).expect(rt, "there is memory");
+    act_out(rt, memory, 0, &mut peers, &mut judge, before);
+    let mut judge = Judge::new(opened(memory, judge.close()).expect(rt, "it opens"));
+    act_out(rt, memory, 0, &mut peers, &mut judge, after);
     drop(peers);
     drop(judge);
-    drop(memory);
 }
 
 /// These acts are done, in this run of them.
-pub(crate) fn act_out<'m>(
+fn act_out<M: TestMemory>(
     rt: &impl Abort,
-    memory: Memory<'m>,
+    memory: M,
     run: u64,
-    peers: &mut Peers<Memory<'m>>,
-    judge: &mut HillJudge<'m>,
+    peers: &mut Peers<M>,
+    judge: &mut Judge<M::Device, M>,
     acts: &[Act],
 ) {
     for act in acts {
@@ -111,10 +129,10 @@ pub(crate) fn act_out<'m>(
     }
 }
 
-fn carry_out<'m>(
+fn carry_out<M: TestMemory>(
     rt: &impl Abort,
-    peers: &mut Peers<Memory<'m>>,
-    judge: &mut HillJudge<'m>,
+    peers: &mut Peers<M>,
+    judge: &mut Judge<M::Device, M>,
     act: Act,
 ) {
     match act {
@@ -153,7 +171,7 @@ fn carry_out<'m>(
 }
 
 /// What has to have come of a script.
-fn look(rt: &impl Abort, peers: &mut Peers<Memory<'_>>, act: Act) {
+fn look<M: TestMemory>(rt: &impl Abort, peers: &mut Peers<M>, act: Act) {
     match act {
         Act::Send(number, answers) => send(rt, peers, number, answers),
         Act::Waits(number, count) => {
@@ -167,19 +185,19 @@ fn look(rt: &impl Abort, peers: &mut Peers<Memory<'_>>, act: Act) {
     }
 }
 
-fn connect(rt: &impl Abort, peers: &mut Peers<Memory<'_>>, numbers: &[usize]) {
+fn connect<M: TestMemory>(rt: &impl Abort, peers: &mut Peers<M>, numbers: &[usize]) {
     for number in numbers {
         expect_same(rt, &peers.connect(), &Ok(*number), "a peer");
     }
 }
 
-fn come(rt: &impl Abort, peers: &mut Peers<Memory<'_>>, number: usize, text: &str) {
+fn come<M: TestMemory>(rt: &impl Abort, peers: &mut Peers<M>, number: usize, text: &str) {
     let room = peers.room(number);
     assert!(rt; text.len() <= room);
     peers.take(number, text.as_bytes());
 }
 
-fn send(rt: &impl Abort, peers: &mut Peers<Memory<'_>>, number: usize, answers: &str) {
+fn send<M: TestMemory>(rt: &impl Abort, peers: &mut Peers<M>, number: usize, answers: &str) {
     expect_same(rt, &peers.unsent(number), &answers.as_bytes(), "answers");
     let count = peers.unsent(number).len();
     peers.sent(number, count);
@@ -188,10 +206,10 @@ fn send(rt: &impl Abort, peers: &mut Peers<Memory<'_>>, number: usize, answers: 
 
 /// Steps serve these. With `skips` each comes after the steps of a submission in progress, and after sources that are
 /// put off meanwhile.
-fn step_on<'m>(
+fn step_on<M: TestMemory>(
     rt: &impl Abort,
-    peers: &mut Peers<Memory<'m>>,
-    judge: &mut HillJudge<'m>,
+    peers: &mut Peers<M>,
+    judge: &mut Judge<M::Device, M>,
     steps: &[Step],
     skips: bool,
 ) {
@@ -202,7 +220,7 @@ fn step_on<'m>(
 }
 
 /// What is served after `most` steps at most of a submission in progress, and of sources that are put off meanwhile.
-fn served<'m>(peers: &mut Peers<Memory<'m>>, judge: &mut HillJudge<'m>, most: u32) -> Step {
+fn served<M: TestMemory>(peers: &mut Peers<M>, judge: &mut Judge<M::Device, M>, most: u32) -> Step {
     for _step in 0..most {
         let found = peers.serve_next(false, 1_000_000, TURNS, judge);
         if !matches!(found, Step::Stepped(_) | Step::PutOff(_)) {
@@ -212,10 +230,10 @@ fn served<'m>(peers: &mut Peers<Memory<'m>>, judge: &mut HillJudge<'m>, most: u3
     peers.serve_next(false, 1_000_000, TURNS, judge)
 }
 
-fn serve_lines<'m>(
+fn serve_lines<M: TestMemory>(
     rt: &impl Abort,
-    peers: &mut Peers<Memory<'m>>,
-    judge: &mut HillJudge<'m>,
+    peers: &mut Peers<M>,
+    judge: &mut Judge<M::Device, M>,
     count: u32,
 ) {
     for _ in 0..count {

@@ -2,6 +2,8 @@
 
 use crate::callers::{Cue, Deed};
 use crate::serving::{ALL, Due, act_within, within};
+use std::process::Abort;
+use tests_stores::{TestMemory, Trial, run};
 
 /// A peer that sent half a command is disconnected 60 seconds after its last byte. Another one is answered at once.
 static A_SILENT_PEER: [Cue; 7] = [
@@ -123,21 +125,31 @@ static SLOW_BROWSERS_DUE: [Due; 9] = [
     Due::Told("8 ", &["GET / HTTP/1.1: 200 473"]),
 ];
 
+struct ServiceTrial;
+
+impl<R: Abort + AllocGlobal> Trial<R> for ServiceTrial {
+    fn run<M: TestMemory>(rt: &R, memory: M, _: M) {
+        act_within(rt, memory, &A_SILENT_PEER, within(2, 2), &A_SILENT_PEER_DUE);
+        act_within(
+            rt,
+            memory,
+            &A_LONG_SUBMISSION,
+            within(2, 2),
+            &A_LONG_SUBMISSION_DUE,
+        );
+        act_within(rt, memory, &ARRIVALS, within(2, 3), &ARRIVALS_DUE);
+        act_within(
+            rt,
+            memory,
+            &AN_ACCEPT_THAT_FAILS,
+            within(2, 1),
+            &AN_ACCEPT_THAT_FAILS_DUE,
+        );
+        act_within(rt, memory, &SLOW_BROWSERS, within(2, 2), &SLOW_BROWSERS_DUE);
+    }
+}
+
 #[test]
 fn services(rt: HostRuntime) {
-    act_within(&rt, &A_SILENT_PEER, within(2, 2), &A_SILENT_PEER_DUE);
-    act_within(
-        &rt,
-        &A_LONG_SUBMISSION,
-        within(2, 2),
-        &A_LONG_SUBMISSION_DUE,
-    );
-    act_within(&rt, &ARRIVALS, within(2, 3), &ARRIVALS_DUE);
-    act_within(
-        &rt,
-        &AN_ACCEPT_THAT_FAILS,
-        within(2, 1),
-        &AN_ACCEPT_THAT_FAILS_DUE,
-    );
-    act_within(&rt, &SLOW_BROWSERS, within(2, 2), &SLOW_BROWSERS_DUE);
+    run::<HostRuntime, ServiceTrial>(&rt, rt.alloc());
 }

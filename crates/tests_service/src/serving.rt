@@ -2,14 +2,14 @@
 
 use crate::callers::Cue;
 use crate::compare::expect_same;
-use crate::fakes::Fakes;
+use crate::fakes::{Called, Fakes};
 use crate::hills::{NEVER, failing, hill_on};
 use crate::hosts::{Clerk, Shut};
-use koth_service::{Limits, ServiceFault, serve_peers};
+use koth_service::{Limits, LogWrite, ServiceFault, Sockets, serve_peers};
 use sector_disk::FuseKind;
 use std::cell::Cell;
 use std::process::Abort;
-use tests_fixtures::Refusing;
+use tests_stores::TestMemory;
 
 /// All bytes of answers that a peer may be sent.
 pub(crate) const ALL: usize = 16_777_216;
@@ -24,44 +24,40 @@ pub(crate) fn within(peers: usize, connections: u32) -> Limits {
     }
 }
 
-/// What came of a service.
-#[derive(Drop)]
-struct Served<'c> {
-    sockets: Fakes<'c>,
-    fault: Option<ServiceFault<Shut>>,
-    /// What the host wrote.
-    told: Vec<u8>,
+/// The device fails once, after `calls` calls, and the hill may be opened again `openings` times. This ends the service
+/// early, if something does.
+#[derive(Clone, Copy)]
+pub(crate) struct Trouble {
+    pub(crate) calls: u64,
+    pub(crate) openings: u32,
+    pub(crate) fault: Option<ServiceFault<Shut>>,
 }
 
-/// Serves these peers and browsers within these limits on an empty hill. The device fails once, after `calls` calls,
-/// and the hill may be opened again `openings` times. What ended the service early comes back, if something did.
-fn serve<'c>(
-    rt: &(impl Abort + AllocGlobal),
-    cues: &'c [Cue],
+/// No call fails.
+const NONE: Trouble = Trouble {
+    calls: NEVER,
+    openings: 0,
+    fault: None,
+};
+
+/// Serves those that call at these sockets, on this hill, and ends as it has to.
+fn serve<M: TestMemory, S: Sockets, E: LogWrite>(
+    rt: &impl Abort,
+    memory: M,
+    sockets: &mut S,
     limits: Limits,
-    calls: u64,
-    openings: u32,
-) -> Served<'c> {
-    let memory = Refusing::new(rt.alloc());
-    let mut sockets = Fakes::new(rt.alloc(), cues);
-    let mut told = Vec::new(rt.alloc());
-    let store = hill_on(failing(&memory, calls, FuseKind::FailLost)).expect(
-        rt,
-        "a hill is created",
-    );
+    trouble: Trouble,
+    told: &mut E,
+) {
+    let hill = hill_on(failing(memory, trouble.calls, FuseKind::FailLost));
+    let store = hill.expect(rt, "a hill is created");
     let host = Clerk {
-        memory: &memory,
-        openings: Cell::new(openings),
+        memory,
+        openings: Cell::new(trouble.openings),
     };
-    let served = serve_peers(&memory, &mut sockets, limits, store, &host, &mut told);
-    let fault = served.err();
+    let served = serve_peers(memory, sockets, limits, store, &host, told);
     drop(host);
-    drop(memory);
-    Served {
-        sockets,
-        fault,
-        told,
-    }
+    expect_same(rt, &served.err(), &trouble.fault, "what ended it");
 }
 
 /// What has to come of a service. Peers and browsers are named by their ports.
@@ -88,46 +84,53 @@ fn check_told(rt: &impl Abort, text: &str, peer: &str, events: &[&str]) {
 }
 
 /// This came of a service.
-fn check_due(rt: &impl Abort, served: &Served<'_>, due: Due) {
-    let text = str::from_utf8(served.told.as_slice()).expect(rt, "it is text");
+fn check_due<C: Called>(rt: &impl Abort, sockets: &C, text: &str, due: Due) {
     match due {
         Due::Heard(port, answers) => {
-            let caller = served.sockets.caller(port).expect(rt, "it called");
-            expect_same(rt, &caller.heard.as_slice(), &answers.as_bytes(), "answers");
+            let heard = sockets.heard(port).expect(rt, "it called");
+            expect_same(rt, &heard, &answers.as_bytes(), "answers");
         }
         Due::Closed(port, time) => {
-            let caller = served.sockets.caller(port).expect(rt, "it called");
-            expect_same(rt, &caller.closed, &Some(time), "a connection is closed");
+            let closed = sockets.closed(port);
+            expect_same(rt, &closed, &Some(time), "a connection is closed");
         }
         Due::Told(peer, events) => check_told(rt, text, peer, events),
         Due::Line(place, line) => expect_same(rt, &text.lines().nth(place), &Some(line), "a line"),
     }
 }
 
-/// Of a service of these peers and browsers within these limits all this comes.
-pub(crate) fn act_within(
-    rt: &(impl Abort + AllocGlobal),
-    cues: &[Cue],
-    limits: Limits,
-    dues: &[Due],
-) {
-    act_on_a_fault(rt, cues, limits, NEVER, 0, None, dues);
+/// All this came of a service.
+fn check_dues<C: Called>(rt: &impl Abort, sockets: &C, told: &[u8], dues: &[Due]) {
+    let text = str::from_utf8(told).expect(rt, "it is text");
+    for due in dues {
+        check_due(rt, sockets, text, *due);
+    }
 }
 
-/// The same over a device that fails once, after `calls` calls, and a hill that may be opened again `openings` times.
-pub(crate) fn act_on_a_fault(
+/// Of a service of these peers and browsers within these limits all this comes.
+pub(crate) fn act_within<M: TestMemory>(
     rt: &(impl Abort + AllocGlobal),
+    memory: M,
     cues: &[Cue],
     limits: Limits,
-    calls: u64,
-    openings: u32,
-    fault: Option<ServiceFault<Shut>>,
     dues: &[Due],
 ) {
-    let served = serve(rt, cues, limits, calls, openings);
-    expect_same(rt, &served.fault, &fault, "what ended it");
-    for due in dues {
-        check_due(rt, &served, *due);
-    }
-    drop(served);
+    act_on_a_fault(rt, memory, cues, limits, NONE, dues);
+}
+
+/// The same over a device that fails.
+pub(crate) fn act_on_a_fault<M: TestMemory>(
+    rt: &(impl Abort + AllocGlobal),
+    memory: M,
+    cues: &[Cue],
+    limits: Limits,
+    trouble: Trouble,
+    dues: &[Due],
+) {
+    let mut sockets = Fakes::new(rt.alloc(), cues);
+    let mut told = Vec::new(rt.alloc());
+    serve(rt, memory, &mut sockets, limits, trouble, &mut told);
+    check_dues(rt, &sockets, told.as_slice(), dues);
+    drop(told);
+    drop(sockets);
 }

@@ -3,6 +3,8 @@
 use crate::callers::{Cue, Deed};
 use crate::serving::{ALL, Due, act_within, within};
 use koth_service::Limits;
+use std::process::Abort;
+use tests_stores::{TestMemory, Trial, run};
 
 const HILL: &str = "GET / HTTP/1.1\r\nHost: 127.0.0.1:80\r\n\r\n";
 
@@ -79,14 +81,29 @@ const ONE_OF_AN_ADDRESS: Limits = Limits {
     connections: Some(1),
 };
 
+struct SlotTrial;
+
+impl<R: Abort + AllocGlobal> Trial<R> for SlotTrial {
+    fn run<M: TestMemory>(rt: &R, memory: M, _: M) {
+        act_within(
+            rt,
+            memory,
+            &SILENT_BROWSERS,
+            within(1, 1),
+            &SILENT_BROWSERS_DUE,
+        );
+        act_within(rt, memory, &HALF_REQUESTS, within(1, 1), &HALF_REQUESTS_DUE);
+        act_within(
+            rt,
+            memory,
+            &BROWSERS_OF_AN_ADDRESS,
+            ONE_OF_AN_ADDRESS,
+            &BROWSERS_OF_AN_ADDRESS_DUE,
+        );
+    }
+}
+
 #[test]
 fn slots(rt: HostRuntime) {
-    act_within(&rt, &SILENT_BROWSERS, within(1, 1), &SILENT_BROWSERS_DUE);
-    act_within(&rt, &HALF_REQUESTS, within(1, 1), &HALF_REQUESTS_DUE);
-    act_within(
-        &rt,
-        &BROWSERS_OF_AN_ADDRESS,
-        ONE_OF_AN_ADDRESS,
-        &BROWSERS_OF_AN_ADDRESS_DUE,
-    );
+    run::<HostRuntime, SlotTrial>(&rt, rt.alloc());
 }

@@ -1,4 +1,4 @@
-//! The streams of a session, of one type each: what it reads, and what it writes.
+//! The streams of a session: what it reads, and what it writes.
 
 use std::alloc::Global;
 use std::cell::Cell;
@@ -115,7 +115,7 @@ impl Read for Pieces<'_> {
 /// An output that counts its lines.
 #[derive(Drop)]
 pub(crate) struct Answers<'c> {
-    pub(crate) inner: FullWriter,
+    inner: FullWriter,
     signals: Signals,
     lines: &'c Cell<usize>,
 }
@@ -130,6 +130,17 @@ impl<'c> Answers<'c> {
             },
             lines,
         }
+    }
+}
+
+/// An output that keeps what it takes.
+pub(crate) trait Taking: Write + Drop {
+    fn taken(&self) -> &[u8];
+}
+
+impl Taking for Answers<'_> {
+    fn taken(&self) -> &[u8] {
+        self.inner.taken.as_slice()
     }
 }
 

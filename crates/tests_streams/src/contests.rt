@@ -1,10 +1,10 @@
 //! Each growth of memory of a contest or an explanation refused in turn: what was written before is.
 
+use crate::expecting::{expect, ran, text_in};
 use crate::growths::{put, remove, small};
-use crate::program::{Host, Memory, Streams, expect, outcome, text_in, whole};
-use std::fs;
+use crate::program::{Ran, Stage, Trial, on_host, whole};
 use std::process::Abort;
-use tests_fixtures::{MOST_RUNS, Refusing};
+use tests_fixtures::MOST_RUNS;
 
 /// A command that writes line by line, or a page, and its input; what it writes, and its status.
 #[derive(Clone, Copy)]
@@ -42,11 +42,11 @@ static SOURCES: [(&str, &[u8]); 3] = [
 ];
 
 /// A contest without growth `k`. Whether it took no more growths is the answer.
-fn is_done(rt: &(impl Abort + Host), memory: &Memory, k: u64, contest: &Contest) -> bool {
-    let mut streams = whole(rt, contest.input);
-    let (status, refused) = outcome(rt, memory, k, contest.line, &mut streams);
-    if refused == 0 || contest.explains && status == contest.status {
-        expect_done(rt, &streams, k, contest, refused == 0);
+fn is_done<S: Stage>(rt: &impl Abort, stage: &S, k: u64, contest: &Contest) -> bool {
+    let ran = ran(rt, stage, k, contest.line, whole(contest.input));
+    let (status, has_all) = (ran.status, ran.refused == 0);
+    if has_all || contest.explains && status == contest.status {
+        expect_done(rt, &ran, k, contest, has_all);
         expect(
             rt,
             status == contest.status,
@@ -55,17 +55,17 @@ fn is_done(rt: &(impl Abort + Host), memory: &Memory, k: u64, contest: &Contest)
             "another status",
         );
     } else {
-        expect_begun(rt, &streams, k, contest);
+        expect_begun(rt, &ran, k, contest);
         expect(rt, status == 4, contest.line, k, "another status");
     }
-    drop(streams);
-    refused == 0
+    drop(ran);
+    has_all
 }
 
 /// A run wrote all that this command writes, and explained it if it had all memory.
-fn expect_done(rt: &impl Abort, streams: &Streams<'_>, k: u64, contest: &Contest, has_all: bool) {
-    let output = streams.output.stream.taken.as_slice();
-    let is_told = streams.errors.is_empty() != contest.explains || !has_all;
+fn expect_done(rt: &impl Abort, ran: &Ran, k: u64, contest: &Contest, has_all: bool) {
+    let output = ran.output.as_slice();
+    let is_told = ran.errors.is_empty() != contest.explains || !has_all;
     expect(
         rt,
         output == contest.output.as_bytes(),
@@ -73,19 +73,13 @@ fn expect_done(rt: &impl Abort, streams: &Streams<'_>, k: u64, contest: &Contest
         k,
         text_in(output),
     );
-    expect(
-        rt,
-        is_told,
-        contest.line,
-        k,
-        text_in(streams.errors.as_slice()),
-    );
+    expect(rt, is_told, contest.line, k, text_in(ran.errors.as_slice()));
 }
 
 /// A run that found no memory wrote the first lines of what this command writes, and `MEMORY`.
-fn expect_begun(rt: &impl Abort, streams: &Streams<'_>, k: u64, contest: &Contest) {
-    let output = streams.output.stream.taken.as_slice();
-    let errors = streams.errors.as_slice();
+fn expect_begun(rt: &impl Abort, ran: &Ran, k: u64, contest: &Contest) {
+    let output = ran.output.as_slice();
+    let errors = ran.errors.as_slice();
     let has_lines = output.is_empty() || output.ends_with(b"\n");
     let is_begun = has_lines && contest.output.as_bytes().starts_with(output);
     expect(rt, is_begun, contest.line, k, text_in(output));
@@ -99,28 +93,36 @@ fn expect_begun(rt: &impl Abort, streams: &Streams<'_>, k: u64, contest: &Contes
 }
 
 /// Each growth of a contest is refused in turn: whole lines come before `MEMORY`, and no page.
-fn check_contest(rt: &(impl Abort + Host), memory: &Memory, contest: &Contest) {
+fn check_contest<S: Stage>(rt: &impl Abort, stage: &S, contest: &Contest) {
     let mut done = false;
     for k in 0..MOST_RUNS {
-        done = done || is_done(rt, memory, k, contest);
+        done = done || is_done(rt, stage, k, contest);
     }
     expect(rt, done, contest.line, MOST_RUNS, "it makes more");
 }
 
+struct Contests;
+
+impl<R: Abort> Trial<R> for Contests {
+    fn run<S: Stage>(rt: &R, stage: &S) {
+        stage.make_folder("field.growths").expect(rt, "it is made");
+        for (file, source) in &SOURCES {
+            put(rt, stage, file, source);
+        }
+        for contest in &CONTESTS {
+            check_contest(rt, stage, contest);
+        }
+        for (file, _) in &SOURCES {
+            remove(rt, stage, file);
+        }
+        remove(rt, stage, "growths.html");
+        stage
+            .remove_folder("field.growths")
+            .expect(rt, "it is removed");
+    }
+}
+
 #[test]
 fn of_contests(rt: HostRuntime) {
-    let memory = Refusing::new(rt.alloc());
-    fs::create_dir(&rt, "field.growths").expect(&rt, "it is made");
-    for (file, source) in &SOURCES {
-        put(&rt, file, source);
-    }
-    for contest in &CONTESTS {
-        check_contest(&rt, &memory, contest);
-    }
-    drop(memory);
-    for (file, _) in &SOURCES {
-        remove(&rt, file);
-    }
-    remove(&rt, "growths.html");
-    fs::remove_dir(&rt, "field.growths").expect(&rt, "it is removed");
+    on_host::<HostRuntime, Contests>(&rt);
 }

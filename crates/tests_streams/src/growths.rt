@@ -1,11 +1,9 @@
 //! Each growth of memory of a command refused in turn: it is told or answered, and with memory the command is done
 //! then.
 
-use crate::program::{Due, Host, Memory, check};
-use std::fs;
+use crate::expecting::{Due, check};
+use crate::program::{Stage, Trial, on_host};
 use std::process::Abort;
-use std::rt::Files;
-use tests_fixtures::Refusing;
 
 /// The hill of two on which the next commands are run: the first warrior is on it.
 const HILL: &str = "growths.hill";
@@ -115,45 +113,45 @@ static NO_HILL: Due<'static> = Due {
 };
 
 /// Writes these bytes into a file.
-pub(crate) fn put(rt: &(impl Abort + Files), file: &str, bytes: &[u8]) {
-    fs::write(rt, file, bytes).expect(rt, "it is written");
+pub(crate) fn put<S: Stage>(rt: &impl Abort, stage: &S, file: &str, bytes: &[u8]) {
+    stage.put(file, bytes).expect(rt, "it is written");
 }
 
 /// Whether a file is there.
-fn exists(rt: &(impl Abort + Files), file: &str) -> bool {
-    fs::exists(rt, file).expect(rt, "it can be told")
+fn exists<S: Stage>(rt: &impl Abort, stage: &S, file: &str) -> bool {
+    stage.exists(file).expect(rt, "it can be told")
 }
 
 /// Removes a file.
-pub(crate) fn remove(rt: &(impl Abort + Files), file: &str) {
-    fs::remove_file(rt, file).expect(rt, "it is removed");
+pub(crate) fn remove<S: Stage>(rt: &impl Abort, stage: &S, file: &str) {
+    stage.remove(file).expect(rt, "it is removed");
 }
 
 /// The files as the commands find them: the hill has these bytes, and the other one is not there.
-fn put_files(rt: &(impl Abort + Files), hill: &[u8]) {
-    put(rt, HILL, hill);
-    if exists(rt, CREATED) {
-        remove(rt, CREATED);
+fn put_files<S: Stage>(rt: &impl Abort, stage: &S, hill: &[u8]) {
+    put(rt, stage, HILL, hill);
+    if exists(rt, stage, CREATED) {
+        remove(rt, stage, CREATED);
     }
 }
 
 /// Nothing became of a command that found no memory: the hill has these bytes, and none was created.
-fn expect_files(rt: &(impl Abort + Host), memory: &Memory, hill: &[u8]) {
-    let found = fs::read(rt, HILL).expect(rt, "it is read");
+fn expect_files<S: Stage>(rt: &impl Abort, stage: &S, hill: &[u8]) {
+    let found = stage.bytes(HILL).expect(rt, "it is read");
     assert!(rt; found.as_slice() == hill, "the hill is another one");
     drop(found);
-    if exists(rt, CREATED) {
-        check(rt, memory, u64::MAX, "koth show growing.hill", "", &NO_HILL);
+    if exists(rt, stage, CREATED) {
+        check(rt, stage, u64::MAX, "koth show growing.hill", "", &NO_HILL);
     }
 }
 
 /// A command is done, though growth `k` would be refused.
-fn check_done(
-    rt: &(impl Abort + Host),
-    memory: &Memory,
+fn check_done<S: Stage>(
+    rt: &impl Abort,
+    stage: &S,
     k: u64,
     line: &str,
-    input: &str,
+    input: &'static str,
     output: &str,
 ) {
     let due = Due {
@@ -162,24 +160,18 @@ fn check_done(
         status: 0,
         refused: 0,
     };
-    check(rt, memory, k, line, input, &due);
+    check(rt, stage, k, line, input, &due);
 }
 
 /// A command without growth `k` leaves everything as it was. With memory it is done then.
-fn check_refused(
-    rt: &(impl Abort + Host),
-    memory: &Memory,
-    hill: &[u8],
-    k: u64,
-    command: &Command,
-) {
+fn check_refused<S: Stage>(rt: &impl Abort, stage: &S, hill: &[u8], k: u64, command: &Command) {
     let due = without(command, k);
-    put_files(rt, hill);
-    check(rt, memory, k, command.line, command.input, &due);
-    expect_files(rt, memory, hill);
+    put_files(rt, stage, hill);
+    check(rt, stage, k, command.line, command.input, &due);
+    expect_files(rt, stage, hill);
     check_done(
         rt,
-        memory,
+        stage,
         u64::MAX,
         command.line,
         command.input,
@@ -188,14 +180,14 @@ fn check_refused(
 }
 
 /// Each growth of a command is refused in turn, and then one that it doesn't make.
-fn check_command(rt: &(impl Abort + Host), memory: &Memory, hill: &[u8], command: &Command) {
+fn check_command<S: Stage>(rt: &impl Abort, stage: &S, hill: &[u8], command: &Command) {
     for k in 0..command.growths {
-        check_refused(rt, memory, hill, k, command);
+        check_refused(rt, stage, hill, k, command);
     }
-    put_files(rt, hill);
+    put_files(rt, stage, hill);
     check_done(
         rt,
-        memory,
+        stage,
         command.growths,
         command.line,
         command.input,
@@ -204,31 +196,37 @@ fn check_command(rt: &(impl Abort + Host), memory: &Memory, hill: &[u8], command
 }
 
 /// The hill with its first warrior.
-fn first_hill(rt: &(impl Abort + Host), memory: &Memory) -> Vec<u8> {
+fn first_hill<S: Stage>(rt: &impl Abort, stage: &S) -> Vec<u8> {
     let create = small!("koth create growths.hill");
     let submit = "koth submit growths.hill -";
-    check_done(rt, memory, u64::MAX, create, "", "CREATED\n");
-    check_done(rt, memory, u64::MAX, submit, "MOV 0,1\n", "PLACED 1 1 0\n");
-    fs::read(rt, HILL).expect(rt, "it is read")
+    check_done(rt, stage, u64::MAX, create, "", "CREATED\n");
+    check_done(rt, stage, u64::MAX, submit, "MOV 0,1\n", "PLACED 1 1 0\n");
+    stage.bytes(HILL).expect(rt, "it is read")
 }
 
-fn check_commands(rt: &(impl Abort + Host), memory: &Memory) {
-    let hill = first_hill(rt, memory);
+fn check_commands<S: Stage>(rt: &impl Abort, stage: &S) {
+    let hill = first_hill(rt, stage);
     for command in &COMMANDS {
-        check_command(rt, memory, hill.as_slice(), command);
+        check_command(rt, stage, hill.as_slice(), command);
     }
-    put_files(rt, hill.as_slice());
+    put_files(rt, stage, hill.as_slice());
     drop(hill);
+}
+
+struct Growths;
+
+impl<R: Abort> Trial<R> for Growths {
+    fn run<S: Stage>(rt: &R, stage: &S) {
+        put(rt, stage, SOURCE, b"JMP 0\n");
+        put(rt, stage, OLD_HILL, &tests_fixtures::earlier_hill::bytes());
+        check_commands(rt, stage);
+        for file in [HILL, OLD_HILL, SOURCE] {
+            remove(rt, stage, file);
+        }
+    }
 }
 
 #[test]
 fn of_commands(rt: HostRuntime) {
-    let memory = Refusing::new(rt.alloc());
-    put(&rt, SOURCE, b"JMP 0\n");
-    put(&rt, OLD_HILL, &tests_fixtures::earlier_hill::bytes());
-    check_commands(&rt, &memory);
-    drop(memory);
-    for file in [HILL, OLD_HILL, SOURCE] {
-        remove(&rt, file);
-    }
+    on_host::<HostRuntime, Growths>(&rt);
 }

@@ -1,10 +1,11 @@
 //! Tests of the program whose streams fail or whose memory is refused, and of two of its calls. They try what no clause
 //! of `koth_server` says.
 //!
-//! No crate depends on this one, so a check of the crates above waits for none of these tests. The program is always
-//! run over the same types, so that it is compiled once. The helpers come first. `streams` has streams that signals
-//! interrupt. `program` runs the program over them, on memory that refuses growths, by functions without clauses: the
-//! proof of a test carries none of a call's along. Then a module a subject:
+//! No crate depends on this one, so a check of the crates above waits for none of these tests. Tests know the program,
+//! its files and its streams by a trait, `Stage`. It is always run over the same types, which only `on_host` of `program`
+//! names, so that it is compiled once. The helpers come first. `streams` has streams that signals interrupt. `program`
+//! runs the program over them, on memory that refuses growths, and `expecting` has what tests expect of a run. None of
+//! their functions has clauses: the proof of a test carries none of a call's along. Then a module a subject:
 //!
 //! - `failing`: reads and writes that fail, and those that are interrupted;
 //! - `growths`: commands with each growth of memory refused in turn, and `contests`: contests and explanations;
@@ -18,6 +19,8 @@
 mod calls;
 #[cfg(test)]
 mod contests;
+#[cfg(test)]
+mod expecting;
 #[cfg(test)]
 mod failing;
 #[cfg(test)]

@@ -1,73 +1,189 @@
-//! The program, as the tests run it: always over the same types, so that it is compiled once.
+//! The program, as tests know it: a run over streams that behave as a test wants, on memory that refuses growths.
 
 use crate::streams::Signalled;
 use koth_server::{LogWrite, View, run};
-use std::alloc::{Allocator, Global};
+use std::alloc::{AllocError, Allocator, Global};
 use std::fs::File;
 use std::io::{Read, Write};
 use std::net::Net;
 use std::process::Abort;
 use std::random::RandomSource;
 use std::rt::{Clock, Files};
-use tests_fixtures::{FULL, FailingReader, FullWriter, Refusing, reader, writer};
+use std::{fs, io};
+use tests_fixtures::{FULL, Full, FullWriter, Refusing, reader, writer};
 
-/// What the program takes of its host, and the tests too.
+/// How the streams of a run behave.
+#[derive(Clone, Copy)]
+pub(crate) struct Manner {
+    /// The bytes of the input.
+    pub input: &'static [u8],
+    /// Bytes of a read at most.
+    pub read: usize,
+    /// The read that fails. The first is 1, and none is 0.
+    pub fails_at: u64,
+    /// Bytes of a write at most.
+    pub written: usize,
+    /// Bytes that the output takes before it is full.
+    pub room: usize,
+    /// What it does then.
+    pub full: Full,
+    /// Whether a signal interrupts each call once.
+    pub signals: bool,
+}
+
+/// Streams that don't fail, with this input.
+pub(crate) fn whole(input: &'static str) -> Manner {
+    Manner {
+        input: input.as_bytes(),
+        read: usize::MAX,
+        fails_at: 0,
+        written: usize::MAX,
+        room: usize::MAX,
+        full: FULL[0],
+        signals: false,
+    }
+}
+
+/// What came of a run: its status, how many growths it was refused, its reads, and what it wrote.
+#[derive(Drop)]
+pub(crate) struct Ran {
+    pub status: u8,
+    pub refused: u64,
+    pub reads: u64,
+    pub output: Vec<u8>,
+    pub errors: Vec<u8>,
+}
+
+/// Where the program runs, and its files are.
+pub(crate) trait Stage {
+    /// Runs the program with the words of this line, without growth `k`. The error is lack of memory for the words.
+    fn run(&self, k: u64, line: &str, manner: Manner) -> Result<Ran, AllocError>;
+
+    /// Writes these bytes into a file.
+    fn put(&self, file: &str, bytes: &[u8]) -> io::Result<()>;
+
+    /// The bytes of a file.
+    fn bytes(&self, file: &str) -> io::Result<Vec<u8>>;
+
+    /// Whether a file is there.
+    fn exists(&self, file: &str) -> io::Result<bool>;
+
+    /// Removes a file.
+    fn remove(&self, file: &str) -> io::Result<()>;
+
+    /// Makes a folder.
+    fn make_folder(&self, folder: &str) -> io::Result<()>;
+
+    /// Removes a folder.
+    fn remove_folder(&self, folder: &str) -> io::Result<()>;
+}
+
+/// What a test tries on a stage.
+pub(crate) trait Trial<R> {
+    fn run<S: Stage>(rt: &R, stage: &S);
+}
+
+/// What the program takes of its host.
 pub(crate) trait Host: Files<File = File> + Net + Clock + RandomSource + AllocGlobal {}
 
 impl Host for HostRuntime {}
 
-/// The memory of a run, which refuses growths.
-pub(crate) type Memory = Refusing<Global>;
-
-/// The streams of a run.
-#[derive(Drop)]
-pub(crate) struct Streams<'b> {
-    pub input: Signalled<FailingReader<'b>>,
-    pub output: Signalled<FullWriter>,
-    pub errors: Vec<u8>,
+/// A host, and the memory of runs.
+struct Machine<'h, R> {
+    rt: &'h R,
+    memory: &'h Refusing<Global>,
 }
 
-/// What a run writes, how its errors begin, its status, and how many growths it is refused.
-#[derive(Clone, Copy)]
-pub(crate) struct Due<'d> {
-    pub output: &'d [u8],
-    pub errors: &'d str,
-    pub status: u8,
-    pub refused: u64,
-}
+impl<R: Host> Stage for Machine<'_, R> {
+    fn run(&self, k: u64, line: &str, manner: Manner) -> Result<Ran, AllocError> {
+        let words = words_of(self.rt.alloc(), line)?;
+        let ran = run_over(self.rt, self.memory, k, words.as_slice(), manner);
+        drop(words);
+        Ok(ran)
+    }
 
-/// Streams that begin with these two.
-pub(crate) fn streams_of<'b>(
-    rt: &impl AllocGlobal,
-    input: FailingReader<'b>,
-    output: FullWriter,
-    signals: bool,
-) -> Streams<'b> {
-    Streams {
-        input: Signalled::new(input, signals),
-        output: Signalled::new(output, signals),
-        errors: Vec::new(rt.alloc()),
+    fn put(&self, file: &str, bytes: &[u8]) -> io::Result<()> {
+        fs::write(self.rt, file, bytes)
+    }
+
+    fn bytes(&self, file: &str) -> io::Result<Vec<u8>> {
+        fs::read(self.rt, file)
+    }
+
+    fn exists(&self, file: &str) -> io::Result<bool> {
+        fs::exists(self.rt, file)
+    }
+
+    fn remove(&self, file: &str) -> io::Result<()> {
+        fs::remove_file(self.rt, file)
+    }
+
+    fn make_folder(&self, folder: &str) -> io::Result<()> {
+        fs::create_dir(self.rt, folder)
+    }
+
+    fn remove_folder(&self, folder: &str) -> io::Result<()> {
+        fs::remove_dir(self.rt, folder)
     }
 }
 
-/// Streams that don't fail, with this input.
-pub(crate) fn whole<'b>(rt: &impl AllocGlobal, input: &'b str) -> Streams<'b> {
-    let output = writer(rt.alloc(), usize::MAX, usize::MAX, FULL[0]);
-    streams_of(rt, reader(input.as_bytes(), usize::MAX, 0), output, false)
+/// Tries it on this host, with memory of its own. Only this names the type of either.
+pub(crate) fn on_host<R: Host, T: Trial<R>>(rt: &R) {
+    let memory = Refusing::new(rt.alloc());
+    let stage = Machine {
+        rt,
+        memory: &memory,
+    };
+    T::run(rt, &stage);
+    let Machine { rt: _, memory: _ } = stage;
+    drop(memory);
 }
 
 /// The words of a command line, in which blanks are between them.
-fn words_of(rt: &(impl Abort + AllocGlobal), line: &str) -> Vec<String> {
-    let mut words = Vec::new(rt.alloc());
+fn words_of(alloc: Global, line: &str) -> Result<Vec<String>, AllocError> {
+    let mut words = Vec::new(alloc);
     for word in line.split(' ') {
-        add_word(rt, &mut words, word);
+        words.push(String::from_str(alloc, word)?)?;
     }
-    words
+    Ok(words)
 }
 
-fn add_word(rt: &(impl Abort + AllocGlobal), words: &mut Vec<String>, word: &str) {
-    let word = String::from_str(rt.alloc(), word).expect(rt, "there is memory");
-    words.push(word).expect(rt, "there is memory");
+/// A run with these words, over such streams.
+fn run_over<R: Host>(
+    rt: &R,
+    memory: &Refusing<Global>,
+    k: u64,
+    words: &[String],
+    manner: Manner,
+) -> Ran {
+    let source = reader(manner.input, manner.read, manner.fails_at);
+    let target = writer(rt.alloc(), manner.written, manner.room, manner.full);
+    let mut input = Signalled::new(source, manner.signals);
+    let mut output = Signalled::new(target, manner.signals);
+    let mut errors = Vec::new(rt.alloc());
+    memory.refuse(k, 1);
+    let heap = rt.alloc();
+    let status = status_of(
+        rt,
+        heap,
+        memory,
+        words,
+        &mut input,
+        &mut output,
+        &mut errors,
+    );
+    Ran {
+        status,
+        refused: memory.refused(),
+        reads: input.stream.reads,
+        output: taken(output),
+        errors,
+    }
+}
+
+/// What an output took.
+fn taken(output: Signalled<FullWriter>) -> Vec<u8> {
+    output.stream.taken
 }
 
 /// What a run of the program with these words leaves with. They are parsed on the heap, which refuses nothing.
@@ -81,77 +197,4 @@ fn status_of<A: Allocator + Copy>(
     errors: &mut impl LogWrite,
 ) -> u8 {
     run(rt, heap, alloc, words, View::Plain, input, output, errors)
-}
-
-/// The status of a run with the words of this line and without growth `k`, and how many growths were refused.
-pub(crate) fn outcome(
-    rt: &(impl Abort + Host),
-    memory: &Memory,
-    k: u64,
-    line: &str,
-    streams: &mut Streams<'_>,
-) -> (u8, u64) {
-    let words = words_of(rt, line);
-    memory.refuse(k, 1);
-    let status = status_of(
-        rt,
-        rt.alloc(),
-        memory,
-        words.as_slice(),
-        &mut streams.input,
-        &mut streams.output,
-        &mut streams.errors,
-    );
-    drop(words);
-    (status, memory.refused())
-}
-
-/// Such a run does what is due. How many reads there were is the answer.
-pub(crate) fn check_over(
-    rt: &(impl Abort + Host),
-    memory: &Memory,
-    k: u64,
-    line: &str,
-    mut streams: Streams<'_>,
-    due: &Due<'_>,
-) -> u64 {
-    let (status, refused) = outcome(rt, memory, k, line, &mut streams);
-    let is_due = status == due.status && refused == due.refused;
-    expect(rt, is_due, line, k, "another status, or other refusals");
-    expect_written(rt, &streams, line, k, due);
-    let reads = streams.input.stream.reads;
-    drop(streams);
-    reads
-}
-
-/// The same with this input, over streams that don't fail.
-pub(crate) fn check(
-    rt: &(impl Abort + Host),
-    memory: &Memory,
-    k: u64,
-    line: &str,
-    input: &str,
-    due: &Due<'_>,
-) {
-    check_over(rt, memory, k, line, whole(rt, input), due);
-}
-
-/// A run wrote what is due.
-fn expect_written(rt: &impl Abort, streams: &Streams<'_>, line: &str, k: u64, due: &Due<'_>) {
-    let output = streams.output.stream.taken.as_slice();
-    let errors = streams.errors.as_slice();
-    let begins = errors.starts_with(due.errors.as_bytes());
-    let is_told = begins && errors.is_empty() == due.errors.is_empty();
-    expect(rt, output == due.output, line, k, text_in(output));
-    expect(rt, is_told, line, k, text_in(errors));
-}
-
-/// This holds of the run with these words and without growth `k`.
-pub(crate) fn expect(rt: &impl Abort, holds: bool, line: &str, k: u64, found: &str) {
-    assert!(rt; holds, "{line} at {k}: {found}");
-}
-
-/// The text of these bytes, or a remark if they are not UTF-8.
-pub(crate) fn text_in(bytes: &[u8]) -> &str {
-    str::from_utf8(bytes).unwrap_or("bytes that are no text")
 }

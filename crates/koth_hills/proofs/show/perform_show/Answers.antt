@@ -1,7 +1,10 @@
 -- The store's hill is some hill.
-use Rattle.{std.proofs.Common.{List, ℕ, ap₂}, koth_commands.specs.{Answer.answer_parts, declared.status.Status.Status}}
 use Rattle.koth_hills.proofs.show.perform_show.Goals as goal
+use Rattle.koth_hills.proofs.Shown.{seen_of, warrior_of}
 
-pub returns-in_ok-text-in-Ok : goal.returns-in_ok-text-in-Ok
-returns-in_ok-text-in-Ok g c =
-    (c.in-Ok.store.hill, ap₂ (λ (text note : List ℕ). answer_parts Status.Done text note) c.in_ok-text-in-Ok.ensures c.new.ensures.items)
+pub returns-in-Ok : goal.returns-in-Ok
+returns-in-Ok g c = seen_of c.args.shown c.args.view c.in-Ok.store.hill c.answer_sight.result c.in-None.is c.answer_sight.ensures
+
+pub returns-in-Some : goal.returns-in-Some
+returns-in-Some g c =
+    warrior_of c.args.shown c.args.view c.in-Some.entry c.in-Ok.store.hill c.hill.result.now c.answer_entry.result c.in-Some.is c.hill.ensures c.answer_entry.ensures

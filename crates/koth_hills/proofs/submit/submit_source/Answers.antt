@@ -15,14 +15,15 @@ returns-clause-submitted g c =
     let stood = c.roster_for-before.result in
     let items = c.placing_text-placing.result.items in
     let text = c.placing_text-placing.ensures in
+    let placed = c.settle-settled.result.placed.items in
     let more = c.as_slice-more.result.now in
     let result = c.reply_answer.result in
     let known = subst (λ k. IfSome stood (λ v. v.items ≡ roster k)) c.hill.ensures c.roster_for-before.ensures.roster in
     let placing = is_placing (λ v. v.items) view old.hill c.hill-2.result.now source reply judged stood items known c.settle-settled.ensures.due text.plain text.none text.some text.json in
-    let placed = subst (λ t. IsPlacing view old.hill new.hill source reply t) (sym c.as_slice-more.ensures.value)
+    let told = subst (λ t. IsPlacing view old.hill new.hill source reply t) (sym c.as_slice-more.ensures.value)
     (subst (λ k. IsPlacing view old.hill k source reply items) c.hill-2.ensures placing) in
-    if_ok result (λ a. AnswersReply view reply more a ⊎ AnswersReply view reply [] a) (Submitted facts old source new view)
-    (λ a answers. submitted facts old new source view reply more a c.settle-settled.ensures.submits placed answers) c.reply_answer.ensures.answers
+    if_ok result (λ a. AnswersReply view placed reply more a ⊎ AnswersReply view placed reply [] a) (Submitted facts old source new view)
+    (λ a answers. submitted facts old new source view reply placed more a c.settle-settled.ensures.submits c.settle-settled.ensures.placed told answers) c.reply_answer.ensures.answers
 
 pub returns-clause-memory : goal.returns-clause-memory
 returns-clause-memory g c =

@@ -1,5 +1,5 @@
 -- The parts, one after the other.
-use Rattle.{std.proofs.Common.{codes, ◌++◌, ℕ, List}, koth_text.proofs.Steps.four_parts, koth_page.specs.Matches.{label_text, pair_text}}
+use Rattle.{std.proofs.Common.{codes}, koth_text.proofs.Steps.four_parts, koth_page.specs.Matches.{label_text, pair_text}}
 use Rattle.koth_page.proofs.matches.put_label.Goals as goal
 
 pub returns : goal.returns

@@ -1,12 +1,11 @@
 -- The five parts of a heading.
-use Rattle.{std.proofs.Common.{codes, decimal, ◌++◌, ◌∙◌, ℕ, List, ap}, koth_text.{specs.Escape.escaped, proofs.Steps.five_parts}, koth_page.specs.Matches.row_heading}
+use Rattle.{std.proofs.Common.{codes, decimal}, koth_text.{specs.Escape.escaped, proofs.Steps.five_parts}, koth_page.specs.Matches.row_heading}
 use Rattle.koth_page.proofs.matches.put_row_heading.Goals as goal
 
 pub returns : goal.returns
 unfolding row_heading
 returns g c =
-    let three = c.extend_from_slice-2.new.self.items in
-    five_parts c.args.page.now.items (codes "<th scope=\"row\" class=\"name\" id=\"w") (decimal c.args.row.now.entry) (codes "\">") (escaped c.args.row.now.name.now) (codes "</th>")
-    c.extend_from_slice.new.self.items c.put_number.new.page.items three c.put_escaped.new.page.items c.extend_from_slice-3.new.self.items
+    five_parts c.args.page.now.items (codes "<th scope=\"row\" class=\"name\" id=\"w") (decimal c.args.row.now.number) (codes "\">") (escaped c.args.row.now.name.now) (codes "</th>")
+    c.extend_from_slice.new.self.items c.put_number.new.page.items c.extend_from_slice-2.new.self.items c.put_escaped.new.page.items c.extend_from_slice-3.new.self.items
     c.in_ok-extend_from_slice.ensures.items c.in_ok-put_number.ensures c.in_ok-extend_from_slice-2.ensures.items
-    (c.in_ok-put_escaped.ensures ∙ ap (λ (name : List ℕ). three ++ escaped name) c.bytes.ensures.value) c.in_ok-extend_from_slice-3.ensures.items
+    c.in_ok-put_escaped.ensures c.in_ok-extend_from_slice-3.ensures.items

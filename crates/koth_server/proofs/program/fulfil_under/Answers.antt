@@ -1,8 +1,8 @@
 -- Each command ends as its request says, and none of them ends as at a fault of the arguments.
-use Rattle.{std.proofs.Common.{ap, is_some, subst, sym}, war_types.specs.Settings.settings_of, koth_commands.specs.{Check.places_of, Report.manner_of, Streams.{From, is_input, streams}}}
+use Rattle.{std.proofs.Common.{None, ap, is_some, option_copied, option_map, subst, sym}, war_types.specs.Settings.settings_of, koth_commands.specs.{Asm.wanted_of, Check.places_of, Report.manner_of, Streams.{From, is_input, streams}}}
 use Rattle.koth_keeping.specs.{Answers.{Answers, SaysLine}, Audit.SaysAudit, Copies.{MayReseed, SaysCopied}, Created.MayCreate, Migration.migrated_line}
-use Rattle.{koth_hills.specs.{Hills.{AnswersSource, SaysReply, SaysShown, TellsNote, sight_of}, Page.SaysPage, Trials.SaysTrial}, koth_server.specs.Run.viewed, koth_remote.specs.Remote.MayShowTo}
-use Rattle.koth_server.proofs.{Carried.{asm_no_word, check_no_word, fight_no_word, rank_no_word, replay_no_word, request_ends, trace_no_word}, Performed.{noted, of_source, plain}}
+use Rattle.{koth_hills.specs.{Hills.{AnswersSource, SaysReply, SaysShown, TellsNote, sight_of}, Page.SaysPage, Trials.{AnswersTrial, SaysTrial}}, koth_server.specs.Run.viewed, koth_remote.specs.Remote.MayShowTo}
+use Rattle.koth_server.proofs.{Carried.{asm_no_word, candidates_no_word, check_no_word, explain_no_word, fight_no_word, join_no_word, rank_no_word, replay_no_word, request_ends, trace_no_word}, Performed.{noted, of_source, of_trial, plain}}
 use Rattle.koth_server.proofs.Statuses.{audited, copied, created, migrated, paged, replied, reseeded, shown, shown_to, tried}
 use Rattle.koth_server.proofs.program.fulfil_under.Goals.{in-Create, in-Migrate, in-Submit, in-Try, in-Show, in-ShowTo, in-Page, in-Audit, in-Copy, in-Reseed}
 use Rattle.koth_server.proofs.program.fulfil_under.Goals as goal
@@ -10,7 +10,7 @@ use Rattle.koth_server.proofs.program.fulfil_under.Goals as goal
 pub returns-in-Asm : goal.returns-in-Asm
 returns-in-Asm g c =
     let after = streams (g.I.Read.remaining c.asm.new.input) (g.O.Write.contents c.asm.new.output) (g.E.Write.contents c.asm.new.errors) in
-    let words = asm_no_word (is_input c.in-Asm.source) (settings_of c.args.settings) c.asm.result _ after c.asm.ensures in
+    let words = asm_no_word (is_input c.in-Asm.wanted.source) (wanted_of c.in-Asm.wanted) (settings_of c.args.settings) c.asm.result _ after c.asm.ensures in
     request_ends c.args.settings c.args.view _ _ _ _ after c.in-Asm.is c.asm.ensures words
 
 pub returns-in-Check : goal.returns-in-Check
@@ -46,14 +46,36 @@ returns-in-Session g c =
 pub returns-in-Replay : goal.returns-in-Replay
 returns-in-Replay g c =
     let after = streams (g.I.Read.remaining c.replay.new.input) (g.O.Write.contents c.replay.new.output) (g.E.Write.contents c.replay.new.errors) in
-    let words = replay_no_word c.in-Replay.watched.round (is_some c.in-Replay.watched.page) (settings_of c.args.settings) c.replay.result _ _ c.replay.ensures in
+    let words = replay_no_word c.in-Replay.watched.round (is_some c.in-Replay.watched.define) (is_some c.in-Replay.watched.page) (settings_of c.args.settings) c.replay.result _ _ c.replay.ensures in
     request_ends c.args.settings c.args.view _ _ _ _ after c.in-Replay.is c.replay.ensures words
 
 pub returns-in-Trace : goal.returns-in-Trace
 returns-in-Trace g c =
     let after = streams (g.I.Read.remaining c.trace.new.input) (g.O.Write.contents c.trace.new.output) (g.E.Write.contents c.trace.new.errors) in
-    let words = trace_no_word c.in-Trace.traced.round c.in-Trace.traced.last c.in-Trace.traced.form (settings_of c.args.settings) c.trace.result _ _ c.trace.ensures in
+    let words = trace_no_word c.in-Trace.traced.round (is_some c.in-Trace.traced.define) c.in-Trace.traced.last c.in-Trace.traced.form (settings_of c.args.settings) c.trace.result _ _ c.trace.ensures in
     request_ends c.args.settings c.args.view _ _ _ _ after c.in-Trace.is c.trace.ensures words
+
+pub returns-in-Many : goal.returns-in-Many
+returns-in-Many g c =
+    let after = streams (g.I.Read.remaining c.fight_candidates.new.input) (g.O.Write.contents c.fight_candidates.new.output) (g.E.Write.contents c.fight_candidates.new.errors) in
+    let ends = rw c.as_slice-opponents.ensures.value at c.fight_candidates.ensures in
+    let words = candidates_no_word c.in-Many.candidates.opponents.items (settings_of c.args.settings) c.fight_candidates.result _ _ ends in
+    request_ends c.args.settings c.args.view _ _ _ _ after c.in-Many.is ends words
+
+pub returns-in-Join : goal.returns-in-Join
+returns-in-Join g c =
+    let after = streams (g.I.Read.remaining c.args.input.now) (g.O.Write.contents c.join.new.output) (g.E.Write.contents c.join.new.errors) in
+    let ends = rw (c.as_slice-parts.ensures.value, c.viewed.ensures) at c.join.ensures in
+    let words = join_no_word _ _ c.join.result _ _ _ _ ends in
+    request_ends c.args.settings c.args.view _ _ _ _ after c.in-Join.is ends words
+
+pub returns-in-Explain : goal.returns-in-Explain
+returns-in-Explain g c =
+    let after = streams (g.I.Read.remaining c.args.input.now) (g.O.Write.contents c.explain_kind.new.output) (g.E.Write.contents c.explain_kind.new.errors) in
+    let from = streams None (g.O.Write.contents c.args.output.now) (g.E.Write.contents c.args.errors.now) in
+    let to = streams None (g.O.Write.contents c.explain_kind.new.output) (g.E.Write.contents c.explain_kind.new.errors) in
+    let words = explain_no_word (option_copied c.in-Explain.kind) c.explain_kind.result from to c.explain_kind.ensures in
+    request_ends c.args.settings c.args.view _ _ _ _ after c.in-Explain.is c.explain_kind.ensures words
 
 pub returns-in-SubmitTo : goal.returns-in-SubmitTo
 returns-in-SubmitTo g c =
@@ -91,11 +113,12 @@ returns g c =
       | in-Try w ↦
           let shown = viewed w.in-Try.files.view v in
           let of_input = is_input w.in-Try.files.source in
-          let may = subst (λ x. From of_input (λ a b. AnswersSource (SaysTrial x) a b w.perform_try-done.result) i (g.I.Read.remaining w.perform_try-done.new.input))
+          let define = option_map (λ words. words.now) w.in-Try.define in
+          let may = subst (λ x. From of_input (λ a b. AnswersTrial define (SaysTrial x) a b w.perform_try-done.result) i (g.I.Read.remaining w.perform_try-done.new.input))
           w.viewed-view-in-Try.ensures w.perform_try-done.ensures in
-          of_source s v _ _ _ i j o p e n f done _ w.in-Try.is w.done-is c.deliver.ensures of_input (SaysTrial shown) (tried of_input shown i j)
+          of_trial s v _ _ _ i j o p e n f done _ w.in-Try.is w.done-is c.deliver.ensures of_input define shown (tried of_input define shown i j)
           (subst (λ x. TellsNote e (g.E.Write.contents x)) (sym w.errors-is) w.tell_lost_header-in-Try.ensures) (λ ends. ends)
-          (subst (λ x. From of_input (λ a b. AnswersSource (SaysTrial shown) a b w.perform_try-done.result) i (g.I.Read.remaining x)) (sym w.input-is) may)
+          (subst (λ x. From of_input (λ a b. AnswersTrial define (SaysTrial shown) a b w.perform_try-done.result) i (g.I.Read.remaining x)) (sym w.input-is) may)
       | in-Show w ↦
           let sight = sight_of w.in-Show.shown in
           let asked = viewed w.in-Show.shown.view v in

@@ -1,5 +1,5 @@
 -- The nearest name so far, and then that of the names that are left, is that of all names.
-use Rattle.{std.proofs.Common.{◌≡◌, length, map, option_map, None}, redcode_scene.specs.Nearest.{nearest_from, seen}}
+use Rattle.{std.proofs.Common.{◌≡◌, length, map, option_map, None}, redcode_scene.specs.Search.{nearest_from, seen}}
 use Rattle.redcode_scene.proofs.nearest.nearest_in.Given as goal
 
 abbrev pub invariant-loop-rest : goal.invariant-loop-rest

@@ -1,0 +1,2 @@
+-- parts of a line
+mod OfLine

@@ -1,0 +1,2 @@
+-- the part of a line that is told
+pub mod Place
